@@ -1,0 +1,11 @@
+pub mod Lists
+pub mod All
+pub mod Reverse
+pub mod Ring
+pub mod Solve
+pub mod Size
+pub mod Order
+pub mod Linear
+pub mod Mach
+pub mod Tests
+pub mod Sum
