@@ -19,7 +19,8 @@ use Rattle.building.specs.declared.Verdict.the-variants.{Accepted, Faulty}
 use Rattle.building.specs.Thirteen.{NoneOfThirteen, accepted-none, none-accepted, named-polygon}
 use Rattle.building.specs.Thirteen as T
 use Rattle.building.specs.Corrections.{Correction, stampOf, lastNumber}
-use Rattle.checker.specs.Service.{State, nothing, holding, tablesOf, buildingOf, late, refusal, refusalNumber, reportOf, toldOf, step}
+use Rattle.checker.specs.declared.Refusal.the-variants.{Late}
+use Rattle.checker.specs.Service.{State, nothing, holding, tablesOf, buildingOf, refusal, refusalNumber, reportOf, toldOf, step}
 use Rattle.checker.specs.Stream.{Served, wholeRefusal, served, answers}
 use Rattle.checker.specs.Refusals.{accepts, refused-line, after, struck, answersTo, acceptedAnswers, joined, struck-stream}
 use Rattle.checker.specs.Fresh.{freshReport, isCorrection}
@@ -107,7 +108,7 @@ module _ (before : List (List ℕ)) (end : List ℕ) (since : List (List ℕ)) (
   stamp = stamp-is before end since s
 
   -- "In that span a correction numbered no higher than the last one accepted in it is refused"
-  pub late-refused : (l : List ℕ) (number : ℕ) → Numbered (decode l) number → number ≤ lastNumber (correctionsOf before since) → refusal (held before end since) (decode l) ≡ late
+  pub late-refused : (l : List ℕ) (number : ℕ) → Numbered (decode l) number → number ≤ lastNumber (correctionsOf before since) → refusal (held before end since) (decode l) ≡ Late
   late-refused = late-correction before end since s
 
 -- "and striking out all refused frames changes no other answer."

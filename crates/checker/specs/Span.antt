@@ -17,7 +17,9 @@ use Rattle.building.specs.Corrections.{Correction, corrected, stampOf}
 use Rattle.building.specs.Corrections as C
 use Rattle.building.specs.History.{told-loaded, stamp-told}
 use Rattle.building.specs.Loadable.{Loadable}
-use Rattle.checker.specs.Service.{State, nothing, loading, holding, Refusal, accepted, late, refusal, tablesOf, buildingOf, takes, reportOf, toldOf, answerTo, Outcome, outcome, step, isMalformed, isMisplaced, isLoading, isHolding, isLate, isAbsent, isBeyond, isFull, isTaken}
+use Rattle.checker.specs.declared.Refusal.{Refusal}
+use Rattle.checker.specs.declared.Refusal.the-variants.{Accepted, Late}
+use Rattle.checker.specs.Service.{State, nothing, loading, holding, refusal, tablesOf, buildingOf, takes, reportOf, toldOf, answerTo, Outcome, outcome, step, isMalformed, isMisplaced, isLoading, isHolding, isLate, isAbsent, isBeyond, isFull, isTaken}
 use Rattle.checker.specs.Refusals.{isAccepted, accepts, after}
 use Rattle.checker.specs.History.{isBegin, NoBegin, history, accepted-keeps, after-told}
 use Rattle.checker.specs.Handlers.{of-move, of-turn}
@@ -121,13 +123,13 @@ pub data Numbered : Frame → ℕ → Type 0 where
   a-move : {number n : ℕ} {x y z : ℤ} → Numbered (move number n x y z) number
   a-turn : {number n : ℕ} → Numbered (turn number n) number
 
-late-held : (b : Building) {f : Frame} {number : ℕ} → Numbered f number → number ≤ b .last → refusal (holding b) f ≡ late
+late-held : (b : Building) {f : Frame} {number : ℕ} → Numbered f number → number ≤ b .last → refusal (holding b) f ≡ Late
 unfolding first given
 late-held b (a-move {number = number} {n = n} {x = x} {y = y} {z = z}) h = of-move b number n x y z ∙ (rw (le-leb number (b .last) h))
 late-held b (a-turn {number = number} {n = n}) h = of-turn b number n ∙ (rw (le-leb number (b .last) h))
 
 pub late-correction : (before : List (List ℕ)) (end : List ℕ) (since : List (List ℕ)) → Span before end since → (l : List ℕ) (number : ℕ) → Numbered (decode l) number
-    → number ≤ C.lastNumber (correctionsOf before since) → refusal (held before end since) (decode l) ≡ late
+    → number ≤ C.lastNumber (correctionsOf before since) → refusal (held before end since) (decode l) ≡ Late
 unfolding C.told
 late-correction before end since s l number k h =
     ap (λ (st : State). refusal st (decode l)) (held-told before end since s) ∙ late-held (C.told (loadedBy before) (correctionsOf before since)) k h
