@@ -2,12 +2,12 @@
 use Prim.Native.Nat.{ℕ, zero, suc, _+_, _*_, _-_, _/_, _%_, _^_, _≤_, _<_}
 use native.Mathlib.Omega.{arith}
 use native.Mathlib.Nat.{pow-suc}
-use mathlib.Core.Path.{_≡_, refl, sym, ap, ap₂, _∙_, subst}
+use mathlib.Core.Path.{_≡_, refl, ap, ap₂, _∙_}
 use mathlib.Core.Bool.{Bool, true, false, cond, _&&_, false≢true}
 use mathlib.Core.List.{List, [], _∷_, _++_}
-use borrow.Author.Tests.{lt-ltb, le-ltb, le-leb, lt-leb, eq-eqb, ne-eqb, leb-true}
-use lib.Dec.{ltb, leb, eqb}
-use lib.ListN.{length, take, drop, length-append, length-drop}
+use borrow.Author.Tests.{lt-ltb, le-ltb, le-leb, leb-true}
+use lib.Dec.{ltb}
+use lib.ListN.{length, drop, length-append, length-drop}
 use lib.IntN.{ℤ, pos, negsuc}
 use Rattle.whole.specs.All.{All, none, more}
 use Rattle.frame.specs.Hex.{isHex, allHex, digitValue, numberFrom, number, signed32, digit, digits, bits32, hex-computes}
@@ -74,7 +74,7 @@ length-digits (suc k) v =
     let h : length (digits k (v / 16)) ≡ k = length-digits k (v / 16) in
     length-append (digits k (v / 16)) (digit (v % 16) ∷ []) ∙ (rw h (omega arith))
 
-numberFrom-append : (n : ℕ) (s t : List ℕ) → numberFrom n (s ++ t) ≡ numberFrom (numberFrom n s) t
+pub numberFrom-append : (n : ℕ) (s t : List ℕ) → numberFrom n (s ++ t) ≡ numberFrom (numberFrom n s) t
 unfolding numberFrom
 numberFrom-append n [] t = refl
 numberFrom-append n (b ∷ s) t = numberFrom-append (n * 16 + digitValue b) s t
@@ -181,7 +181,7 @@ WellFormed (turn number n) = Unit {0}
 WellFormed (question n) = Unit {0}
 WellFormed broken = Unit {0}
 
-numbers-few : (l : List ℕ) → 4 * length (numbers l) ≤ length l
+pub numbers-few : (l : List ℕ) → 4 * length (numbers l) ≤ length l
 unfolding numbers
 numbers-few [] = omega arith
 numbers-few (a ∷ []) = omega arith
@@ -189,11 +189,11 @@ numbers-few (a ∷ b ∷ []) = omega arith
 numbers-few (a ∷ b ∷ c ∷ []) = omega arith
 numbers-few (a ∷ b ∷ c ∷ d ∷ l) = let h : 4 * length (numbers l) ≤ length l = numbers-few l in omega arith
 
-and-left : (a b : Bool) → (a && b) ≡ true → a ≡ true
+pub and-left : (a b : Bool) → (a && b) ≡ true → a ≡ true
 and-left true b e = refl
 and-left false b e = e
 
-and-right : (a b : Bool) → (a && b) ≡ true → b ≡ true
+pub and-right : (a b : Bool) → (a && b) ≡ true → b ≡ true
 and-right true b e = e
 and-right false b e = absurd (false≢true e)
 
