@@ -8,7 +8,7 @@ use lib.IntN.{ℤ, pos, negsuc}
 use Rattle.whole.specs.Lists.{tally}
 use Rattle.whole.specs.All.{All}
 use Rattle.frame.specs.Frame.{Frame, move, turn, question, decode}
-use Rattle.frame.specs.Lines.{lines, ended}
+use Rattle.frame.specs.Lines.{lines, ended, joined}
 use Rattle.frame.specs.Answer.{plain, reported, told}
 use Rattle.polygon.specs.Ring.{finding, findingNumber, part}
 use Rattle.polygon.specs.declared.Finding.the-variants.{Sound}
@@ -22,7 +22,7 @@ use Rattle.building.specs.Corrections.{Correction, stampOf, lastNumber}
 use Rattle.checker.specs.declared.Refusal.the-variants.{Late}
 use Rattle.checker.specs.Service.{State, nothing, holding, tablesOf, buildingOf, refusal, refusalNumber, reportOf, toldOf, step}
 use Rattle.checker.specs.Stream.{Served, wholeRefusal, served, answers}
-use Rattle.checker.specs.Refusals.{accepts, refused-line, after, struck, answersTo, acceptedAnswers, joined, struck-stream}
+use Rattle.checker.specs.Refusals.{accepts, refused-line, after, struck, answersTo, acceptedAnswers, struck-stream}
 use Rattle.checker.specs.Fresh.{freshReport, isCorrection}
 use Rattle.checker.specs.Span.{Span, loadedBy, correctionsOf, correctedBy, held, held-tables, stamp-is, correction-fresh, freshHeld, SameButStamp, question-fresh, Numbered, late-correction}
 use Rattle.checker.specs.Short.{step-short}
