@@ -1,5 +1,5 @@
 -- Laws of the digits of a line: which bytes they are, and the fields that the code reads from them.
-use Prim.Native.Nat.{ℕ, zero, suc, _+_, _*_, _-_, _^_, _≤_, _<_}
+use Prim.Native.Nat.{ℕ, zero, suc, _+_, _*_, _-_, _/_, _%_, _^_, _≤_, _<_}
 use native.Mathlib.Omega.{arith}
 use native.Mathlib.Numerals.{add-one}
 use native.Mathlib.Nat.{pow-suc, pow-le-pow-right}
@@ -26,26 +26,29 @@ or-cases : (a b : Bool) → (a || b) ≡ true → (a ≡ true) ⊎ (b ≡ true)
 or-cases true b e = inl refl
 or-cases false b e = inr e
 
-module _ (b : ℕ) (h : isHex b ≡ true) where
-  hex-parts : ((leb 48 b && ltb b 58) ≡ true) ⊎ ((leb 65 b && ltb b 71) ≡ true)
+-- the low four bits, and 9 more for a letter
+abbrev pub byBits : ℕ → ℕ
+byBits b = b % 16 + 9 * (b / 64)
+
+module _ (b : ℕ) where
+  digit-low : (leb 48 b && ltb b 58) ≡ true → (byBits b ≡ digitValue b) × (byBits b < 16)
+  unfolding digitValue
+  digit-low e =
+      let h : 48 ≤ b = leb-true 48 b (and-left (leb 48 b) (ltb b 58) e) in
+      let g : b < 58 = ltb-true b 58 (and-right (leb 48 b) (ltb b 58) e) in
+      (rw (lt-ltb b 58 g) (omega arith), omega arith)
+
+  digit-high : (leb 65 b && ltb b 71) ≡ true → (byBits b ≡ digitValue b) × (byBits b < 16)
+  unfolding digitValue
+  digit-high e =
+      let h : 65 ≤ b = leb-true 65 b (and-left (leb 65 b) (ltb b 71) e) in
+      let g : b < 71 = ltb-true b 71 (and-right (leb 65 b) (ltb b 71) e) in
+      let a : 58 ≤ b = omega arith in
+      (rw (le-ltb b 58 a) (omega arith), omega arith)
+
+  pub digit-is : isHex b ≡ true → (byBits b ≡ digitValue b) × (byBits b < 16)
   unfolding isHex
-  hex-parts = or-cases (leb 48 b && ltb b 58) (leb 65 b && ltb b 71) h
-
-  pub hex-above : 48 ≤ b
-  hex-above =
-      ⊎-elim (λ e. leb-true 48 b (and-left (leb 48 b) (ltb b 58) e)) (λ e. omega (arith, leb-true 65 b (and-left (leb 65 b) (ltb b 71) e))) hex-parts
-
-  pub hex-below : b < 71
-  hex-below =
-      ⊎-elim (λ e. omega (arith, ltb-true b 58 (and-right (leb 48 b) (ltb b 58) e))) (λ e. ltb-true b 71 (and-right (leb 65 b) (ltb b 71) e)) hex-parts
-
-  pub digit-low : b < 58 → (b - 48 ≡ digitValue b) × (b - 48 < 16)
-  unfolding digitValue
-  digit-low g = (rw (lt-ltb b 58 g), omega arith)
-
-  pub digit-high : 58 ≤ b → (b - 55 ≡ digitValue b) × (b - 55 < 16)
-  unfolding digitValue
-  digit-high g = (rw (le-ltb b 58 g), omega (arith, hex-below))
+  digit-is h = ⊎-elim digit-low digit-high (or-cases (leb 48 b && ltb b 58) (leb 65 b && ltb b 71) h)
 
 -- ---- a line of digits
 

@@ -1,9 +1,9 @@
 -- Laws of lines: how a loop over a stream meets them one by one, and that lines written one after another are read back.
-use Prim.Native.Nat.{ℕ, suc, _+_, _-_, _≤_, _<_}
+use Prim.Native.Nat.{ℕ, zero, suc, _+_, _-_, _≤_, _<_}
 use native.Mathlib.Omega.{arith}
 use native.Mathlib.Numerals.{add-one}
 use mathlib.Core.Path.{_≡_, refl, ap, _∙_}
-use mathlib.Core.Bool.{Bool, true, false}
+use mathlib.Core.Bool.{Bool, true, false, cond}
 use mathlib.Core.List.{List, [], _∷_, _++_}
 use borrow.Author.Tests.{eq-eqb, ne-eqb}
 use lib.Dec.{eqb}
@@ -106,38 +106,76 @@ module _ (s : List ℕ) (i : ℕ) where
   unfolding lineEnd firstLine
   end-past h = rw (lines-done s i h) (omega arith)
 
--- ---- turns of the loop that counts lines
+-- ---- counting lines
 
-length-many : (b : ℕ) (ls : List (List ℕ)) → 0 < length ls → length (onFirst b ls) ≡ length ls
-unfolding onFirst
-length-many b [] h = absurd (omega arith)
-length-many b (l ∷ ls) h = refl
+-- how many bytes are line feeds
+unfoldable pub feeds : List ℕ → ℕ
+feeds [] = 0
+feeds (b ∷ s) = cond (eqb b 10) 1 0 + feeds s
+
+module _ (s : List ℕ) (i : ℕ) where
+  pub feeds-feed : i < length s → getD s i 0 ≡ 10 → feeds (drop i s) ≡ feeds (drop (i + 1) s) + 1
+  unfolding feeds
+  feeds-feed h e = rw (add-one i, drop-cons s i 0, eq-eqb (getD s i 0) 10 e) (omega arith)
+
+  pub feeds-byte : i < length s → (getD s i 0 ≡ 10 → ⊥) → feeds (drop i s) ≡ feeds (drop (i + 1) s)
+  unfolding feeds
+  feeds-byte h n = rw (add-one i, drop-cons s i 0, ne-eqb (getD s i 0) 10 n) (omega arith)
+
+  pub feeds-end : length s ≤ i → feeds (drop i s) ≡ 0
+  unfolding feeds
+  feeds-end h = rw drop-of-length-le
+
+feed-few : (c : Bool) (m k : ℕ) → m ≤ k → cond c 1 0 + m ≤ suc k
+feed-few true m k h = omega arith
+feed-few false m k h = omega arith
+
+pub feeds-few : (k : ℕ) (s : List ℕ) → feeds (take k s) ≤ k
+unfolding feeds
+feeds-few zero s = omega arith
+feeds-few (suc k) [] = omega arith
+feeds-few (suc k) (b ∷ s) = feed-few (eqb b 10) (feeds (take k s)) k (feeds-few k s)
+
+length-many : (c : Bool) (b : ℕ) (ls : List (List ℕ)) → 0 < length ls → length (putByte c b ls) ≡ cond c 1 0 + length ls
+unfolding putByte onFirst
+length-many true b ls h = omega arith
+length-many false b [] h = absurd (omega arith)
+length-many false b (l ∷ ls) h = omega arith
 
 one-line : (c : Bool) (b : ℕ) → length (putByte c b []) ≡ 1
 unfolding putByte onFirst
 one-line true b = refl
 one-line false b = refl
 
+-- up to its last byte, each line feed of a stream ends a line
+feeds-lines : (k : ℕ) (s : List ℕ) → k < length s → length (lines s) ≡ feeds (take k s) + length (lines (drop k s))
+unfolding feeds lines
+feeds-lines zero s h = omega arith
+feeds-lines (suc k) [] h = absurd (omega arith)
+feeds-lines (suc k) (b ∷ s) h =
+    let g : 0 < length s = omega arith in
+    let ih : length (lines s) ≡ feeds (take k s) + length (lines (drop k s)) = feeds-lines k s (omega arith) in
+    length-many (eqb b 10) b (lines s) (lines-some s 0 g) ∙ omega arith
+
 pub count-none : (s : List ℕ) → length s ≡ 0 → length (lines s) ≡ 0
 unfolding lines
 count-none [] h = refl
 count-none (b ∷ s) h = absurd (omega arith)
 
-module _ (s : List ℕ) (i : ℕ) where
-  pub count-feed : i < length s → getD s i 0 ≡ 10 → length (lines (drop i s)) ≡ length (lines (drop (i + 1) s)) + 1
-  count-feed h e = rw (lines-feed s i h e, add-one i) (omega arith)
+pub count-last : (s : List ℕ) (i : ℕ) → i + 1 ≡ length s → length (lines (drop i s)) ≡ 1
+unfolding lines
+count-last s i h =
+    let a : i < length s = omega arith in
+    let b : length s ≤ suc i = omega arith in
+    rw (drop-cons s i 0, drop-of-length-le s b, lines) (one-line (eqb (getD s i 0) 10) (getD s i 0))
 
-  pub count-byte : i + 1 < length s → (getD s i 0 ≡ 10 → ⊥) → length (lines (drop i s)) ≡ length (lines (drop (i + 1) s))
-  count-byte h n =
-      let a : i < length s = omega arith in
-      rw (lines-byte s i a n, ← add-one i) (length-many (getD s i 0) (lines (drop (i + 1) s)) (lines-some s (i + 1) h))
-
-  pub count-last : i + 1 ≡ length s → length (lines (drop i s)) ≡ 1
-  unfolding lines
-  count-last h =
-      let a : i < length s = omega arith in
-      let b : length s ≤ suc i = omega arith in
-      rw (drop-cons s i 0, drop-of-length-le s b, lines) (one-line (eqb (getD s i 0) 10) (getD s i 0))
+-- a part of the stream is counted: its line feeds, and the lines of what is left
+pub count-part : (s : List ℕ) (from to : ℕ) → from ≤ to → to < length s
+    → length (lines (drop from s)) ≡ feeds (take (to - from) (drop from s)) + length (lines (drop to s))
+count-part s from to h g =
+    let d : length (drop from s) ≡ length s - from = length-drop from s in
+    let e : from + (to - from) ≡ to = omega arith in
+    feeds-lines (to - from) (drop from s) (omega arith) ∙ rw (drop-drop (to - from) from s, e)
 
 -- ---- lines written one after another are read back
 

@@ -29,16 +29,12 @@ pub fn all_hex(line: &[u8]) -> bool
     good
 }
 
-// The number of a digit.
+// The number of a digit; without branches, since the next digit cannot be foreseen.
 fn digit_value(b: u8) -> u64
     requires { ⌜ isHex b ≡ true ⌝ }
     ensures { λ r. ⌜ (r ≡ digitValue b) × (r < 16) ⌝ }
 {
-    if b < 58 {
-        (b - 48) as u64
-    } else {
-        (b - 55) as u64
-    }
+    (b % 16 + 9 * (b / 64)) as u64
 }
 
 // The unsigned field of k digits that starts at an offset.

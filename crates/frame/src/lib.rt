@@ -8,6 +8,7 @@ ghost use mathlib.Core.Bool.{true};
 ghost use lib.ListN.{length, drop, getD};
 ghost use lib.Seq.{sets};
 ghost use Rattle.frame.specs.Lines.{lines, lineEnd, ended};
+ghost use Rattle.frame.specs.LineLaws.{feeds};
 ghost use Rattle.frame.specs.Frame.{Kind, numbers, decode};
 ghost use Rattle.frame.specs.Hex.{allHex};
 ghost use Rattle.frame.specs.Answer.{plain, reported, told};
@@ -40,7 +41,31 @@ pub fn line_end(stream: &[u8], from: usize) -> usize
     i
 }
 
-// How many lines a stream has: the last byte ends the last line, each line feed before it one more.
+// How many line feeds a short part of a stream has: counted in a byte, many bytes are tested at a time.
+fn feeds_in(part: &[u8]) -> u8
+    requires { ⌜ length (now part) ≤ 255 ⌝ }
+    ensures { λ r. ⌜ r ≡ feeds (now (part .entry)) ⌝ }
+{
+    let mut n: u8 = 0;
+    let mut i = 0;
+    while i < part.len() {
+        if part[i] == 10 {
+            n += 1;
+        }
+        i += 1;
+    }
+    n
+}
+
+// Where the next part to count ends.
+fn part_end(from: usize, last: usize) -> usize
+    requires { ⌜ from < last ⌝ }
+    ensures { λ r. ⌜ (from < r) × ((r ≤ last) × (r ≤ from + 240)) ⌝ }
+{
+    if last - from < 240 { last } else { from + 240 }
+}
+
+// How many lines a stream has: its last byte ends or is in the last line, each line feed before it ends one more.
 pub fn count_lines(stream: &[u8]) -> usize
     ensures { λ r. ⌜ r ≡ length (lines (now (stream .entry))) ⌝ }
 {
@@ -48,15 +73,14 @@ pub fn count_lines(stream: &[u8]) -> usize
         return 0;
     }
     let last = stream.len() - 1;
-    let mut n: usize = 0;
-    let mut i = 0;
-    while i < last {
-        if stream[i] == 10 {
-            n += 1;
-        }
-        i += 1;
+    let mut n: usize = 1;
+    let mut from = 0;
+    while from < last {
+        let to = part_end(from, last);
+        n += feeds_in(&stream[from..to]) as usize;
+        from = to;
     }
-    n + 1
+    n
 }
 
 // The frame of a line.
