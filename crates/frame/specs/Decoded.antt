@@ -203,6 +203,10 @@ fields-back Broken l = refl
 pub meaning-tells : (r s : Fields) (l : List ℕ) → meaning r l ≡ meaning s l → r ≡ s
 meaning-tells r s l e = sym (fields-back r l) ∙ ap fieldsOf e ∙ fields-back s l
 
+-- what a caller knows of the line once it has matched the answer r as s
+pub decoded-as : (l : List ℕ) (r s : Fields) → meaning r l ≡ decode l → r ≡ s → decode l ≡ meaning s l
+decoded-as l r s e p = sym e ∙ ap (λ (x : Fields). meaning x l) p
+
 -- ---- the line of a polygon frame
 
 filled-ring : (k : Kind) (ring l : List ℕ) → polygon ring ≡ filled k l → ring ≡ numbers l

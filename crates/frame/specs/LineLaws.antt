@@ -194,3 +194,16 @@ pub lines-joined : (ls : List (List ℕ)) → All NoFeed ls → lines (joined ls
 unfolding lines joined
 lines-joined [] none = refl
 lines-joined (l ∷ ls) (more h hs) = lines-ended l (joined ls) h ∙ ap (λ (k : List (List ℕ)). l ∷ k) (lines-joined ls hs)
+
+-- ---- for a loop over the stream
+
+-- what the end of the line that starts at an offset tells
+pub record Cut (s : List ℕ) (from e : ℕ) : Type 0 where
+  pub above : from ≤ e
+  pub inside : e ≤ length s
+  pub first : lines (drop from s) ≡ take (e - from) (drop from s) ∷ lines (drop (e + 1) s)
+
+pub cut-of : (s : List ℕ) (from e : ℕ) → e ≡ lineEnd s from → from < length s → Cut s from e
+cut-of s from e p h =
+    let a : from ≤ length s = omega arith in
+    rw p (record { above = end-above s from; inside = end-inside s from a; first = line-cut s from h })

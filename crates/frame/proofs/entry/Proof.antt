@@ -15,7 +15,8 @@ add-unsigned c = omega (arith, entry-inside (c .before .args .line .now) (c .bef
 unsigned-requires : tie.Need-unsigned-requires
 unsigned-requires c κs =
     let a = c .before .args in
-    record { hex = c .before .pre .hex; inside = entry-inside (a .line .now) (a .i) (c .before .pre); short = search needs }
+    let h = entry-inside (a .line .now) (a .i) (c .before .pre) in
+    record { hex = c .before .pre .hex; inside = omega arith; short = search needs }
 
 cast-result : tie.Need-cast-result
 cast-result c = search needs
