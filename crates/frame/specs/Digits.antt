@@ -22,7 +22,7 @@ pub record HexField (l : List ℕ) (at k : ℕ) : Type 0 where
 
 -- ---- one digit
 
-or-cases : (a b : Bool) → (a || b) ≡ true → (a ≡ true) ⊎ (b ≡ true)
+pub or-cases : (a b : Bool) → (a || b) ≡ true → (a ≡ true) ⊎ (b ≡ true)
 or-cases true b e = inl refl
 or-cases false b e = inr e
 

@@ -1,4 +1,5 @@
 -- `signed` meets its contract: below 2^31 the number itself, from there on below 0.
+use native.Mathlib.Omega.{arith}
 use borrow.Author.Needs.{needs}
 use Rattle.frame.specs.Signed.{signed-neg, signed-pos, signed-fits}
 use Rattle.frame.proofs.hex.signed.Statement.{statement}
@@ -14,13 +15,13 @@ cast-result-2 : tie.Need-cast-result-2
 cast-result-2 c = search needs
 
 sub-result-2 : tie.Need-sub-result-2
-sub-result-2 c = signed-fits (c .before .args .v) (c .if1 .left) (c .before .pre)
+sub-result-2 c = signed-fits (c .before .args .v) (omega arith) (c .before .pre)
 
 returns : tie.Need-returns
-returns c = signed-pos (c .before .args .v) (c .if1 .taken)
+returns c = signed-pos (c .before .args .v) (omega arith)
 
 returns-2 : tie.Need-returns-2
-returns-2 c = signed-neg (c .before .args .v) (c .if1 .left) (c .before .pre)
+returns-2 c = signed-neg (c .before .args .v) (omega arith) (c .before .pre)
 
 pub signed-spec : {M : Type 1} → statement M
 signed-spec =
