@@ -13,10 +13,10 @@ use Rattle.polygon.proofs.lists.Reads as reads
 use Rattle.polygon.proofs.lists.Lts as lts
 
 abbrev Inv-loop : tie.InvT-loop
-Inv-loop ring n i₀ i = (i ≤ length ring) × (any (eqb n) (drop i ring) ≡ any (eqb n) ring)
+Inv-loop ring n k₀ k = (k ≤ length ring) × (any (eqb n) (drop k ring) ≡ any (eqb n) ring)
 
 abbrev μ-loop : tie.MeasureT-loop
-μ-loop ring n i₀ i = length ring - i
+μ-loop ring n k₀ k = length ring - k
 
 -- src/lib.rt:42:5
 loop-holds : tie.Need-loop-holds Inv-loop μ-loop
@@ -36,11 +36,11 @@ unfolding lists
 returns c =
     let l = c .before .before .before .loop in
     let a = c .before .before .before .before .args in
-    sym (sym (l .inv .1) ∙ any-here (eqb (a .n)) (a .ring .now) (l .i) 0 (c .before .before .loop-test .taken) (eq-eqb (a .n) _ (c .if1 .taken)))
+    sym (sym (l .inv .1) ∙ any-here (eqb (a .n)) (a .ring .now) (l .k) 0 (c .before .before .loop-test .taken) (eq-eqb (a .n) _ (c .if1 .taken)))
 
 -- src/lib.rt:46:9
-add-i : tie.Need-add-i Inv-loop μ-loop
-add-i c = search needs
+add-k : tie.Need-add-k Inv-loop μ-loop
+add-k c = search needs
 
 -- src/lib.rt:42:5
 loop-less : tie.Need-loop-less Inv-loop μ-loop
@@ -51,7 +51,7 @@ loop-again : tie.Need-loop-again Inv-loop μ-loop
 loop-again c =
     let l = c .before .before .before .loop in
     let a = c .before .before .before .before .args in
-    (omega arith, sym (any-next (eqb (a .n)) (a .ring .now) (l .i) 0 (c .before .before .loop-test .taken) (ne-eqb (a .n) _ (c .if1 .left))) ∙ l .inv .1)
+    (omega arith, sym (any-next (eqb (a .n)) (a .ring .now) (l .k) 0 (c .before .before .loop-test .taken) (ne-eqb (a .n) _ (c .if1 .left))) ∙ l .inv .1)
 
 -- src/lib.rt:38:1
 returns-2 : tie.Need-returns-2 Inv-loop μ-loop
@@ -59,7 +59,7 @@ unfolding lists
 returns-2 c =
     let l = c .before .loop in
     let a = c .before .before .args in
-    sym (sym (l .inv .1) ∙ any-end (eqb (a .n)) (a .ring .now) (l .i) (omega arith))
+    sym (sym (l .inv .1) ∙ any-end (eqb (a .n)) (a .ring .now) (l .k) (omega arith))
 
 pub lists-spec : {M : Type 1} → statement M
 lists-spec =
@@ -71,7 +71,7 @@ lists-spec =
     mul-if1
     shared-slice-read-if1
     returns
-    add-i
+    add-k
     loop-less
     loop-again
     returns-2)

@@ -20,10 +20,10 @@ use Rattle.polygon.proofs.part_of.Lts as lts
 use Rattle.polygon.proofs.determinant_of.Reads as determinant-of-reads
 
 abbrev Inv-loop : tie.InvT-loop
-Inv-loop points ring sum₀ n first last₀ i₀ sum last i = Going ring n first last i × Acc (partStep (pointsOf points) first) 6000000000000000 (part (pointsOf points) ring) ring last i (toZ w64 sum)
+Inv-loop points ring sum₀ n first last₀ j₀ sum last j = Going ring n first last j × Acc (partStep (pointsOf points) first) 6000000000000000 (part (pointsOf points) ring) ring last j (toZ w64 sum)
 
 abbrev μ-loop : tie.MeasureT-loop
-μ-loop points ring sum₀ n first last₀ i₀ sum last i = n - i
+μ-loop points ring sum₀ n first last₀ j₀ sum last j = n - j
 
 -- src/lib.rt:130:9
 returns : tie.Need-returns Inv-loop μ-loop
@@ -60,8 +60,8 @@ add-sum c =
     asks w64 (two (c .before .before .before .loop .sum) tt (c .before .before .before .loop .inv .1) (going-few (c .before .before .before .before .before .before .before .pre .1) (c .before .before .before .loop .inv .0)) (s .1)) (v 0 ⊕ v 1) tt
 
 -- src/lib.rt:139:9
-add-i : tie.Need-add-i Inv-loop μ-loop
-add-i c = search needs
+add-j : tie.Need-add-j Inv-loop μ-loop
+add-j c = search needs
 
 -- src/lib.rt:135:5
 loop-less : tie.Need-loop-less Inv-loop μ-loop
@@ -91,7 +91,7 @@ part-of-spec =
     shared-slice-read-next
     determinant-of-requires
     add-sum
-    add-i
+    add-j
     loop-less
     loop-again
     returns-2)
