@@ -241,7 +241,6 @@ module _ {a b c : Spot} (h : Same-way a b c) where
         other = not-b;
       }
 
-
 -- ---- the test and the facts
 same-zero : (z : ℤ) → sameZ z (pos 0) ≡ true → z ≡ pos 0
 unfolding sameZ

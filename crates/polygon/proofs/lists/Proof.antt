@@ -1,16 +1,15 @@
-use Rattle.whole.specs.Search.{any-here, any-next, any-end}
-use Rattle.whole.specs.Lists.{lists, any}
+-- `polygon::lists` meets its contract. The loop: what is left of the ring tells whether the number stands in it.
+use native.Mathlib.Omega.{arith}
+use mathlib.Core.Path.{_≡_, refl, sym, _∙_}
+use Prim.Native.Nat.{_≤_, _-_}
 use lib.ListN.{length, drop}
 use lib.Dec.{eqb}
 use borrow.Author.Tests.{eq-eqb, ne-eqb}
 use borrow.Author.Needs.{needs}
-use native.Mathlib.Omega.{arith}
-use mathlib.Core.Path.{_≡_, refl, sym, _∙_}
-use Prim.Native.Nat.{ℕ, _≤_, _-_, _+_, _<_}
+use Rattle.whole.specs.Search.{any-here, any-next, any-end}
+use Rattle.whole.specs.Lists.{lists, any}
 use Rattle.polygon.proofs.lists.Statement.{statement}
 use Rattle.polygon.proofs.lists.Tie as tie
-use Rattle.polygon.proofs.lists.Reads as reads
-use Rattle.polygon.proofs.lists.Lts as lts
 
 abbrev Inv-loop : tie.InvT-loop
 Inv-loop ring n k₀ k = (k ≤ length ring) × (any (eqb n) (drop k ring) ≡ any (eqb n) ring)
@@ -18,19 +17,15 @@ Inv-loop ring n k₀ k = (k ≤ length ring) × (any (eqb n) (drop k ring) ≡ a
 abbrev μ-loop : tie.MeasureT-loop
 μ-loop ring n k₀ k = length ring - k
 
--- src/lib.rt:42:5
 loop-holds : tie.Need-loop-holds Inv-loop μ-loop
 loop-holds c = (omega arith, refl)
 
--- src/lib.rt:43:17
 mul-if1 : tie.Need-mul-if1 Inv-loop μ-loop
 mul-if1 c = search needs
 
--- src/lib.rt:43:17
 shared-slice-read-if1 : tie.Need-shared-slice-read-if1 Inv-loop μ-loop
 shared-slice-read-if1 c = search needs
 
--- src/lib.rt:44:13
 returns : tie.Need-returns Inv-loop μ-loop
 unfolding lists
 returns c =
@@ -38,22 +33,18 @@ returns c =
     let a = c .before .before .before .before .args in
     sym (sym (l .inv .1) ∙ any-here (eqb (a .n)) (a .ring .now) (l .k) 0 (c .before .before .loop-test .taken) (eq-eqb (a .n) _ (c .if1 .taken)))
 
--- src/lib.rt:46:9
 add-k : tie.Need-add-k Inv-loop μ-loop
 add-k c = search needs
 
--- src/lib.rt:42:5
 loop-less : tie.Need-loop-less Inv-loop μ-loop
 loop-less c = search needs
 
--- src/lib.rt:42:5
 loop-again : tie.Need-loop-again Inv-loop μ-loop
 loop-again c =
     let l = c .before .before .before .loop in
     let a = c .before .before .before .before .args in
     (omega arith, sym (any-next (eqb (a .n)) (a .ring .now) (l .k) 0 (c .before .before .loop-test .taken) (ne-eqb (a .n) _ (c .if1 .left))) ∙ l .inv .1)
 
--- src/lib.rt:38:1
 returns-2 : tie.Need-returns-2 Inv-loop μ-loop
 unfolding lists
 returns-2 c =
