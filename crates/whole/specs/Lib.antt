@@ -9,3 +9,7 @@ pub mod Linear
 pub mod Mach
 pub mod Tests
 pub mod Sum
+pub mod Search
+pub mod First
+pub mod Places
+pub mod Agree
