@@ -2,5 +2,10 @@ pub mod Edges
 pub mod Reach
 pub mod Shell
 pub mod Held
+pub mod Table
+pub mod Kept
+pub mod Steps
+pub mod Tallies
+pub mod Ascending
 pub mod Closure
 pub mod EdgeLaws
