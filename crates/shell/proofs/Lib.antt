@@ -1,3 +1,7 @@
 -- Lemmas on plain values that several proofs of this crate use.
 pub mod Sorts
 pub mod Words
+pub mod Runs
+pub mod Sweeps
+pub mod Nodes
+pub mod Firsts

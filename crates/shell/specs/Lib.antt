@@ -5,6 +5,7 @@ pub mod Held
 pub mod Table
 pub mod Kept
 pub mod Steps
+pub mod Marking
 pub mod Tallies
 pub mod Ascending
 pub mod Closure
