@@ -10,3 +10,4 @@ pub mod Tallies
 pub mod Ascending
 pub mod Closure
 pub mod EdgeLaws
+pub mod Adequate
