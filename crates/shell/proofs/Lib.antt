@@ -5,3 +5,8 @@ pub mod Runs
 pub mod Sweeps
 pub mod Nodes
 pub mod Firsts
+pub mod Uses
+pub mod Pairs
+pub mod Across
+pub mod Fans
+pub mod Corner

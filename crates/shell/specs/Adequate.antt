@@ -211,7 +211,7 @@ module _ (t : ℕ → Bool) (rs : List (List ℕ)) (p q : ℕ) where
   shares e i j h = in-any (λ e. t e && any (eqb e) (edgesOf (getD rs q []))) e (edgesOf (getD rs p [])) i (and-yes (t e) (any (eqb e) (edgesOf (getD rs q []))) h (in-any (eqb e) e (edgesOf (getD rs q [])) j (eq-eqb e e refl)))
 
 -- a polygon with an edge, or with an entry, is one of the rings
-edge-nil : (e : ℕ) → In e (edgesOf []) → ⊥
+pub edge-nil : (e : ℕ) → In e (edgesOf []) → ⊥
 unfolding edgesOf Rattle.whole.specs.Lists.steps
 edge-nil e i = i
 
