@@ -7,7 +7,10 @@ pub mod Kept
 pub mod Steps
 pub mod Marking
 pub mod Tallies
+pub mod Tabs
 pub mod Ascending
 pub mod Closure
 pub mod EdgeLaws
 pub mod Adequate
+pub mod Turned
+pub mod EdgedLaws
