@@ -11,3 +11,4 @@ pub mod Across
 pub mod Fans
 pub mod Corner
 pub mod Ways
+pub mod Rows
