@@ -1,6 +1,25 @@
 // The held building: its tables, corrections and report.
 use polygon::Finding;
 use shell::Shape;
+ghost use mathlib.Core.Path.{_≡_};
+ghost use mathlib.Core.Bool.{Bool, cond};
+ghost use mathlib.Core.List.{List, reverse};
+ghost use Prim.Native.Nat.{ℕ, _+_, _*_, _-_, _<_, _≤_};
+ghost use lib.Dec.{ltb};
+ghost use lib.ListN.{length, getD, set, take};
+ghost use lib.Seq.{sets};
+ghost use lib.IntN.{ℤ, pos, natAbs};
+ghost use Rattle.whole.specs.Lists.{tally, sumOf};
+ghost use Rattle.polygon.specs.Space.{samePlace};
+ghost use Rattle.polygon.specs.Ring.{findingNumber};
+ghost use Rattle.polygon.specs.Held.{pointsOf, placeAt};
+ghost use Rattle.shell.specs.Shell.{shapeNumber, shapeA, shapeB};
+ghost use Rattle.building.specs.Tables.{isFar, standsElse};
+ghost use Rattle.building.specs.Report.{checkNumber, elementA, elementB};
+ghost use Rattle.building.specs.Lists.{cut};
+ghost use Rattle.building.specs.Holds.{point3, placed};
+ghost use Rattle.building.specs.Places.{elseAt};
+ghost use Rattle.building.specs.Scans.{lowest, Summable};
 
 // The check that a report names, with its elements. `checkNumber`, `elementA` and `elementB` give document 01's numbers.
 pub enum Verdict {
@@ -8,4 +27,256 @@ pub enum Verdict {
     Faulty(usize, Finding),
     Unsound(Shape),
     Inward,
+}
+
+// What is held beside the arrays: the numbers of points, polygons and words of the edge table in use, the last accepted
+// correction number, and the check of the whole that no correction changes.
+pub struct Scalars {
+    pub tolerance: u16,
+    pub points: usize,
+    pub polygons: usize,
+    pub last: u32,
+    pub edges: usize,
+    pub fixed: Shape,
+}
+
+// Whether a coordinate is beyond its bound.
+fn beyond(x: i64) -> bool
+    ensures { λ r. ⌜ r ≡ ltb 100000 (natAbs x) ⌝ }
+{
+    (x < -100000) | (100000 < x)
+}
+
+// "tolerance or coordinate beyond its bound"
+pub fn is_far(x: i64, y: i64, z: i64) -> bool
+    ensures { λ r. ⌜ r ≡ isFar (point3 x y z) ⌝ }
+{
+    beyond(x) | beyond(y) | beyond(z)
+}
+
+// Whether a place is that of point p.
+fn same_place(points: &[i64; 1536], p: usize, x: i64, y: i64, z: i64) -> bool
+    requires { ⌜ (length (now points) ≡ 1536) × (p < 512) ⌝ }
+    ensures { λ r. ⌜ r ≡ samePlace (point3 x y z) (placeAt (now (points .entry)) p) ⌝ }
+{
+    let i = 3 * p;
+    (x == points[i]) & (y == points[i + 1]) & (z == points[i + 2])
+}
+
+// The same, of a point that is not number n.
+fn else_at(points: &[i64; 1536], p: usize, n: usize, x: i64, y: i64, z: i64) -> bool
+    requires { ⌜ (length (now points) ≡ 1536) × (p < 512) ⌝ }
+    ensures { λ r. ⌜ r ≡ elseAt p n (point3 x y z) (placeAt (now (points .entry)) p) ⌝ }
+{
+    if p == n {
+        return false;
+    }
+    same_place(points, p, x, y, z)
+}
+
+// "the place is that of another point": of one of the first count, but for number n.
+pub fn stands_else(points: &[i64; 1536], count: usize, n: usize, x: i64, y: i64, z: i64) -> bool
+    requires { ⌜ (length (now points) ≡ 1536) × (count ≤ 512) ⌝ }
+    ensures { λ r. ⌜ r ≡ standsElse n (point3 x y z) (take count (pointsOf (now (points .entry)))) ⌝ }
+{
+    let mut i = 0;
+    while i < count {
+        if else_at(points, i, n, x, y, z) {
+            return true;
+        }
+        i += 1;
+    }
+    false
+}
+
+// Point n at another place.
+pub fn place(points: &mut [i64; 1536], n: usize, x: i64, y: i64, z: i64)
+    requires { ⌜ (length (now points) ≡ 1536) × (n < 512) ⌝ }
+    ensures { λ _. ⌜ now (points .exit) ≡ placed (now (points .entry)) n (point3 x y z) ⌝ }
+{
+    let i = 3 * n;
+    points[i] = x;
+    points[i + 1] = y;
+    points[i + 2] = z;
+}
+
+// Ring n ends where the next one starts.
+pub fn close_ring(starts: &mut [u16; 257], n: usize, end: usize)
+    requires { ⌜ (length (now starts) ≡ 257) × ((n < 256) × (end ≤ 1024)) ⌝ }
+    ensures { λ _. ⌜ now (starts .exit) ≡ set (now (starts .entry)) (n + 1) end ⌝ }
+{
+    starts[n + 1] = end as u16;
+}
+
+// The entries from one place up to another, in reverse order in their place.
+fn reverse_in(entries: &mut [u16; 1024], from: usize, to: usize)
+    requires { ⌜ (from ≤ to) × ((to ≤ 1024) × (length (now entries) ≡ 1024)) ⌝ }
+    ensures { λ _. ⌜ now (entries .exit) ≡ sets (now (entries .entry)) from (reverse (cut from to (now (entries .entry)))) ⌝ }
+{
+    let mut i = from;
+    let mut j = to;
+    while i + 1 < j {
+        j -= 1;
+        let first = entries[i];
+        entries[i] = entries[j];
+        entries[j] = first;
+        i += 1;
+    }
+}
+
+// The lowest of the first n polygons that has a finding; n if there is none.
+fn lowest_of(findings: &[u8; 256], n: usize) -> usize
+    requires { ⌜ (n ≤ 256) × (length (now findings) ≡ 256) ⌝ }
+    ensures { λ r. ⌜ r ≡ lowest (take n (now (findings .entry))) ⌝ }
+{
+    let mut i = 0;
+    while i < n {
+        if findings[i] != 0 {
+            return i;
+        }
+        i += 1;
+    }
+    i
+}
+
+// "number of polygons with a finding of their own", of the first n.
+pub fn faults_of(findings: &[u8; 256], n: usize) -> usize
+    requires { ⌜ (n ≤ 256) × (length (now findings) ≡ 256) ⌝ }
+    ensures { λ r. ⌜ r ≡ tally (ltb 0) (take n (now (findings .entry))) ⌝ }
+{
+    let mut count: usize = 0;
+    let mut i = 0;
+    while i < n {
+        if findings[i] != 0 {
+            count += 1;
+        }
+        i += 1;
+    }
+    count
+}
+
+// "The building's six-volume is the sum of the parts": of the first n.
+pub fn six_volume(parts: &[i64; 256], n: usize) -> i64
+    requires { ⌜ Summable (now parts) n ⌝ }
+    ensures { λ r. ⌜ r ≡ sumOf (λ z. z) (take n (now (parts .entry))) ⌝ }
+{
+    let mut total: i64 = 0;
+    let mut i = 0;
+    while i < n {
+        total += parts[i];
+        i += 1;
+    }
+    total
+}
+
+// Document 01's number of a finding.
+fn finding_number(f: Finding) -> u8
+    ensures { λ r. ⌜ r ≡ findingNumber f ⌝ }
+{
+    match f {
+        Finding::Sound => 0,
+        Finding::Short => 1,
+        Finding::Unclosed => 2,
+        Finding::Repeated => 3,
+        Finding::NoNormal => 4,
+        Finding::Crossed => 5,
+        Finding::Uneven => 6,
+    }
+}
+
+// The finding of a number.
+fn finding_from(n: u8) -> Finding
+    requires { ⌜ n ≤ 6 ⌝ }
+    ensures { λ r. ⌜ findingNumber r ≡ n ⌝ }
+{
+    match n {
+        0 => Finding::Sound,
+        1 => Finding::Short,
+        2 => Finding::Unclosed,
+        3 => Finding::Repeated,
+        4 => Finding::NoNormal,
+        5 => Finding::Crossed,
+        _ => Finding::Uneven,
+    }
+}
+
+// Document 01's number of the check that a shape names.
+fn shape_number(s: Shape) -> u8
+    ensures { λ r. ⌜ r ≡ shapeNumber s ⌝ }
+{
+    match s {
+        Shape::Whole => 0,
+        Shape::Few(_) => 7,
+        Shape::Once(_, _) => 8,
+        Shape::Often(_, _) => 9,
+        Shape::Alike(_, _) => 10,
+        Shape::Apart(_) => 11,
+        Shape::Unlinked(_) => 12,
+    }
+}
+
+// Its element a.
+fn shape_a(s: Shape) -> usize
+    ensures { λ r. ⌜ r ≡ shapeA s ⌝ }
+{
+    match s {
+        Shape::Whole => 0,
+        Shape::Few(n) => n,
+        Shape::Once(a, _) => a,
+        Shape::Often(a, _) => a,
+        Shape::Alike(a, _) => a,
+        Shape::Apart(p) => p,
+        Shape::Unlinked(v) => v,
+    }
+}
+
+// Its element b.
+fn shape_b(s: Shape) -> usize
+    ensures { λ r. ⌜ r ≡ shapeB s ⌝ }
+{
+    match s {
+        Shape::Whole => 0,
+        Shape::Few(_) => 0,
+        Shape::Once(_, b) => b,
+        Shape::Often(_, b) => b,
+        Shape::Alike(_, b) => b,
+        Shape::Apart(_) => 0,
+        Shape::Unlinked(_) => 0,
+    }
+}
+
+// The number of the check that a verdict names.
+pub fn check_number(v: Verdict) -> u8
+    ensures { λ r. ⌜ r ≡ checkNumber v ⌝ }
+{
+    match v {
+        Verdict::Accepted => 0,
+        Verdict::Faulty(_, f) => finding_number(f),
+        Verdict::Unsound(s) => shape_number(s),
+        Verdict::Inward => 13,
+    }
+}
+
+// Its element a.
+pub fn element_a(v: Verdict) -> usize
+    ensures { λ r. ⌜ r ≡ elementA v ⌝ }
+{
+    match v {
+        Verdict::Accepted => 0,
+        Verdict::Faulty(a, _) => a,
+        Verdict::Unsound(s) => shape_a(s),
+        Verdict::Inward => 0,
+    }
+}
+
+// Its element b.
+pub fn element_b(v: Verdict) -> usize
+    ensures { λ r. ⌜ r ≡ elementB v ⌝ }
+{
+    match v {
+        Verdict::Accepted => 0,
+        Verdict::Faulty(_, _) => 0,
+        Verdict::Unsound(s) => shape_b(s),
+        Verdict::Inward => 0,
+    }
 }
