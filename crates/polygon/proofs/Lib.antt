@@ -1,0 +1,4 @@
+-- What several proofs cite.
+mod Rings
+mod Numbers
+mod Sums

@@ -1,0 +1,46 @@
+-- The numbers of places as the machine sees them, for what is asked of sums and products of them.
+use Prim.Native.Nat.{ℕ, zero, suc, _^_, _*_, _+_}
+use mathlib.Core.Path.{_≡_, refl, sym, ap, _∙_, subst}
+use mathlib.Core.List.{List, [], _∷_}
+use lib.Dec.{T, ltb}
+use lib.IntN.{ℤ}
+use mir.Syntax.{w64}
+use mir.Val.{hbits, toZ, ofZ}
+use Rattle.whole.specs.Size.{Small, small-zero, small-back, back-small}
+use Rattle.whole.specs.Mach.{Leaf, whole}
+use Rattle.polygon.specs.Space.{Point}
+use Rattle.polygon.specs.Leaves.{at, Near, rowOf, Rows}
+use Rattle.polygon.specs.Sizes.{near-same}
+
+-- a number, read back from its bits
+abbrev pub seen : ℤ → ℤ
+seen z = toZ w64 (ofZ w64 z)
+
+-- three coordinates
+abbrev pub rows : {p : Point} → Near 100000 p → List Leaf → List Leaf
+rows h ls = whole w64 tt (h .x) ∷ whole w64 tt (h .y) ∷ whole w64 tt (h .z) ∷ ls
+
+-- a place that is read back is the same, and as near
+pub seen-is : {n : ℕ} (p : Point) → T (ltb n (2 ^ hbits w64)) → Near n p → at (seen (p .x)) (seen (p .y)) (seen (p .z)) ≡ p
+seen-is p t h = λ i. at (small-back w64 t (h .x) i) (small-back w64 t (h .y) i) (small-back w64 t (h .z) i)
+
+pub seen-near : {n : ℕ} (p : Point) → T (ltb n (2 ^ hbits w64)) → Near n p → Near n (at (seen (p .x)) (seen (p .y)) (seen (p .z)))
+seen-near p t h = record { x = back-small w64 t (h .x); y = back-small w64 t (h .y); z = back-small w64 t (h .z) }
+
+-- ---- places that a call returned
+pub near-back : {n : ℕ} {p q : Point} → T (ltb n (2 ^ hbits w64)) → p ≡ q → Near n q → Near n (at (seen (p .x)) (seen (p .y)) (seen (p .z)))
+near-back t e h = seen-near _ t (near-same e h)
+
+pub back-is : {n : ℕ} {p q : Point} → T (ltb n (2 ^ hbits w64)) → p ≡ q → Near n q → at (seen (p .x)) (seen (p .y)) (seen (p .z)) ≡ q
+back-is t e h = seen-is _ t (near-same e h) ∙ e
+
+-- three rows
+pub rows-three : {a b c d e f g h i : ℤ} → Near 100000 (at a b c) → Near 100000 (at d e f) → Near 100000 (at g h i)
+    → Rows ((a ∷ b ∷ c ∷ []) ∷ (d ∷ e ∷ f ∷ []) ∷ (g ∷ h ∷ i ∷ []) ∷ [])
+rows-three {a} {b} {c} {d} {e} {f} {g} {h} {i} p q r = record { each = each }
+  where
+    each : (k : ℕ) → Near 100000 (rowOf ((a ∷ b ∷ c ∷ []) ∷ (d ∷ e ∷ f ∷ []) ∷ (g ∷ h ∷ i ∷ []) ∷ []) k)
+    each zero = p
+    each (suc zero) = q
+    each (suc (suc zero)) = r
+    each (suc (suc (suc k))) = record { x = small-zero; y = small-zero; z = small-zero }

@@ -1,0 +1,31 @@
+-- Rings, entry by entry: the last one, and all but it.
+use Prim.Native.Nat.{ℕ, zero, suc, _+_, _-_, _≤_, _<_}
+use native.Mathlib.Omega.{arith}
+use mathlib.Core.Path.{_≡_, refl, sym, ap, ap₂, _∙_}
+use mathlib.Core.Bool.{Bool, true, false, not}
+use mathlib.Core.List.{List, [], _∷_}
+use lib.Dec.{eqb}
+use lib.ListN.{length, getD, take}
+use Rattle.whole.specs.Lists.{lastOf, front}
+use Rattle.polygon.specs.Ring.{isUnclosed}
+
+last-at : (a : ℕ) (l : List ℕ) → lastOf a l ≡ getD (a ∷ l) (length l) 0
+unfolding lastOf
+last-at a [] = refl
+last-at a (b ∷ l) = last-at b l
+
+not-not : (b : Bool) → not (not b) ≡ b
+not-not true = refl
+not-not false = refl
+
+pub none-closed : (ring : List ℕ) → length ring ≡ 0 → true ≡ not (isUnclosed ring)
+unfolding isUnclosed
+none-closed [] e = refl
+none-closed (a ∷ l) e = absurd (omega arith)
+
+pub closed-is : (ring : List ℕ) (n : ℕ) → n ≡ length ring → (n ≡ 0 → ⊥) → eqb (getD ring 0 0) (getD ring (n - 1) 0) ≡ not (isUnclosed ring)
+unfolding isUnclosed
+closed-is [] n e f = absurd (f e)
+closed-is (a ∷ l) n e f =
+    let m : n - 1 ≡ length l = omega arith in
+    ap (λ (i : ℕ). eqb a (getD (a ∷ l) i 0)) m ∙ ap (eqb a) (sym (last-at a l)) ∙ sym (not-not (eqb a (lastOf a l)))
