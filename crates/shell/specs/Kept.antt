@@ -1,0 +1,72 @@
+-- What is kept of the shape from end of load on: the table, a flag for each polygon that stands turned, and the verdict of all
+-- checks but 0A, which alone changes by turns.
+use Prim.Native.Nat.{ℕ, zero, suc, _+_, _-_, _≤_, _<_}
+use mathlib.Core.Path.{_≡_}
+use mathlib.Core.Bool.{Bool, true, false}
+use mathlib.Core.List.{List, [], _∷_, _++_, reverse}
+use mathlib.Core.Option.{Option, none, some, Option·map}
+use lib.Dec.{eqb, ltb}
+use lib.ListN.{length, getD, take}
+use Rattle.whole.specs.Lists.{given, first, tab}
+use Rattle.shell.specs.declared.Shape.{Shape}
+use Rattle.shell.specs.declared.Shape.the-variants.{Whole, Few, Once, Often, Alike, Apart, Unlinked}
+use Rattle.shell.specs.Edges.{usedOnce, usedOften}
+use Rattle.shell.specs.Shell.{byEnds, notReached, notLinked}
+use Rattle.shell.specs.Held.{ringAt, rings, Starts, Entries}
+use Rattle.shell.specs.Table.{wordsTo, tableOf, ascending}
+
+-- a ring that passes checks 01, 02 and 03
+pub record Sound (ring : List ℕ) : Type 0 where
+  pub long : 4 ≤ length ring
+  pub closed : getD ring (length ring - 1) 0 ≡ getD ring 0 0
+  pub once : (i j : ℕ) → i < j → j + 1 < length ring → getD ring i 0 ≡ getD ring j 0 → ⊥
+
+-- arrays that hold n rings, each of which passes checks 01 to 03
+pub record Loaded (entries starts : List ℕ) (n : ℕ) : Type 0 where
+  pub points : ℕ
+  pub held : Entries entries (getD starts n 0) points
+  pub begin : Starts starts n
+  pub sound : (p : ℕ) → p < n → Sound (ringAt entries starts p)
+
+-- the shape, had check 0A not been asked
+unfoldable pub fixedShape : List (List ℕ) → Shape
+fixedShape rs =
+    first Whole
+    (given (ltb (length rs) 4) (Few (length rs)) ∷
+    Option·map (byEnds Once) (usedOnce rs) ∷
+    Option·map (byEnds Often) (usedOften rs) ∷
+    Option·map Apart (notReached rs) ∷
+    Option·map Unlinked (notLinked rs) ∷
+    [])
+
+-- what end of load leaves: the table, the number of its words, and the verdict that turns do not change
+pub record Built (entries starts : List ℕ) (n : ℕ) (room table : List ℕ) (count : ℕ) (fixed : Shape) : Type 0 where
+  pub table-is : table ≡ tableOf entries starts n room
+  pub count-is : count ≡ length (wordsTo entries starts n)
+  pub fixed-is : fixed ≡ fixedShape (rings entries starts n)
+
+-- a ring under its flag
+unfoldable pub turn : ℕ → List ℕ → List ℕ
+turn zero ring = ring
+turn (suc k) ring = reverse ring
+
+-- the rings that were loaded, each under its flag
+unfoldable pub turnedRings : List ℕ → List ℕ → ℕ → List ℕ → List (List ℕ)
+turnedRings entries starts n turned = tab (λ p. turn (getD turned p 0) (ringAt entries starts p)) n
+
+-- the table, its number of words, the flags and the verdict belong to the present rings rs
+pub record Edged (rs : List (List ℕ)) (table : List ℕ) (count : ℕ) (turned : List ℕ) (fixed : Shape) : Type 0 where
+  pub entries : List ℕ
+  pub starts : List ℕ
+  pub polygons : ℕ
+  pub loaded : Loaded entries starts polygons
+  pub flags : (p : ℕ) → getD turned p 0 ≤ 1
+  pub present : rs ≡ turnedRings entries starts polygons turned
+  pub words : take count table ≡ ascending (wordsTo entries starts polygons)
+  pub room : count ≤ length table
+  pub fixed-is : fixed ≡ fixedShape (rings entries starts polygons)
+
+-- they belong to some rings
+pub record Known (table : List ℕ) (count : ℕ) (turned : List ℕ) (fixed : Shape) : Type 0 where
+  pub present : List (List ℕ)
+  pub edged : Edged present table count turned fixed

@@ -1,0 +1,144 @@
+-- What the single steps of the code leave: runs of an edge's words, and marks that spread across pairs of words.
+use Prim.Native.Nat.{ℕ, zero, suc, _+_, _*_, _-_, _/_, _%_, _≤_, _<_}
+use mathlib.Core.Path.{_≡_}
+use mathlib.Core.Logic.{_⊎_}
+use mathlib.Core.List.{List, [], _∷_}
+use lib.ListN.{length, getD}
+use Rattle.shell.specs.Edges.{count}
+use Rattle.shell.specs.Reach.{Reach}
+use Rattle.shell.specs.Table.{keyOf, polyOf, stepOf, nextOf, dirOf}
+
+-- the run that begins at i ends before r
+pub record RunEnd (l : List ℕ) (i r : ℕ) : Type 0 where
+  pub above : i < r
+  pub within : r ≤ length l
+  pub same : (k : ℕ) → i ≤ k → k < r → getD l k 0 ≡ getD l i 0
+  pub stop : r < length l → getD l r 0 ≡ getD l i 0 → ⊥
+
+-- k stands in l at least and at most so often
+pub record Between (least most : ℕ) (l : List ℕ) (k : ℕ) : Type 0 where
+  pub enough : least ≤ count k l
+  pub few : count k l ≤ most
+
+-- the least number with a property
+pub record Least (P : ℕ → Type 0) (k : ℕ) : Type 0 where
+  pub holds : P k
+  pub first : (j : ℕ) → P j → k ≤ j
+
+-- r is where the least number with a property stands in l, or l's length where no number has it
+pub record LeastAt (P : ℕ → Type 0) (l : List ℕ) (r : ℕ) : Type 0 where
+  pub within : r ≤ length l
+  pub found : r < length l → Least P (getD l r 0)
+  pub missing : length l ≤ r → (k : ℕ) → P k → ⊥
+
+-- r is the least number with a property, or n where no number has it
+pub record LeastBelow (P : ℕ → Type 0) (n r : ℕ) : Type 0 where
+  pub within : r ≤ n
+  pub found : r < n → Least P r
+  pub missing : n ≤ r → (k : ℕ) → P k → ⊥
+
+abbrev pub pick : ℕ → ℕ → ℕ → ℕ
+pick zero a b = a
+pick (suc d) a b = b
+
+-- the corners of a word at its edge's smaller and larger end
+abbrev pub lowOf : ℕ → ℕ
+lowOf w = pick (dirOf w) (stepOf w) (nextOf w)
+
+abbrev pub highOf : ℕ → ℕ
+highOf w = pick (dirOf w) (nextOf w) (stepOf w)
+
+-- what a word joins: 0 its polygon, 1 and 2 its corners
+abbrev pub nodeOf : ℕ → ℕ → ℕ
+nodeOf zero w = polyOf w
+nodeOf (suc zero) w = lowOf w
+nodeOf (suc (suc n)) w = highOf w
+
+-- a pair of words of l, the first at an even place, joins p and q
+pub record Joined (l : List ℕ) (g : ℕ → ℕ) (p q : ℕ) : Type 0 where
+  pub at : ℕ
+  pub even : at % 2 ≡ 0
+  pub within : at + 1 < length l
+  pub ends : ((g (getD l at 0) ≡ p) × (g (getD l (at + 1) 0) ≡ q)) ⊎ ((g (getD l (at + 1) 0) ≡ p) × (g (getD l at 0) ≡ q))
+
+abbrev pub Joins : ℕ → ℕ → List ℕ → ℕ → ℕ → Type 0
+Joins low high l p q = Joined l (nodeOf low) p q ⊎ Joined l (nodeOf high) p q
+
+abbrev pub Marked : List ℕ → ℕ → Type 0
+Marked m p = getD m p 0 ≡ 1
+
+-- 1,024 marks, each 0 or 1
+pub record Marks (m : List ℕ) : Type 0 where
+  pub size : length m ≡ 1024
+  pub bits : (p : ℕ) → getD m p 0 ≤ 1
+
+pub record Blank (m : List ℕ) : Type 0 where
+  pub size : length m ≡ 1024
+  pub bare : (p : ℕ) → getD m p 0 ≡ 0
+
+-- how many of the marks are 0
+unfoldable pub zeros : List ℕ → ℕ
+zeros [] = 0
+zeros (zero ∷ l) = suc (zeros l)
+zeros (suc a ∷ l) = zeros l
+
+-- one pass over steps R: nothing is lost, nothing is marked that cannot be reached, and without a change the marks are as they were
+-- and R leads out of none of them
+pub record Swept (R : ℕ → ℕ → Type 0) (m₀ m : List ℕ) (r : ℕ) : Type 0 where
+  pub marks : Marks m
+  pub grows : (p : ℕ) → Marked m₀ p → Marked m p
+  pub sound : (p : ℕ) → Marked m p → Reach (Marked m₀) R p
+  pub closed : r ≡ 0 → (p q : ℕ) → R p q → getD m p 0 ≡ getD m q 0
+  pub still : r ≡ 0 → m ≡ m₀
+  pub flag : r ≤ 1
+  pub fewer : zeros m ≤ zeros m₀
+  pub more : (r ≡ 0 → ⊥) → zeros m < zeros m₀
+
+-- the marks are exactly what the marks of m₀ reach
+pub record Flooded (R : ℕ → ℕ → Type 0) (m₀ m : List ℕ) : Type 0 where
+  pub marks : Marks m
+  pub sound : (p : ℕ) → Marked m p → Reach (Marked m₀) R p
+  pub whole : (p : ℕ) → Reach (Marked m₀) R p → Marked m p
+
+-- r is the lowest number below n that has no mark, or n
+pub record LowestBare (m : List ℕ) (n r : ℕ) : Type 0 where
+  pub within : r ≤ n
+  pub before : (k : ℕ) → k < r → getD m k 0 ≡ 0 → ⊥
+  pub bare : r < n → getD m r 0 ≡ 0
+
+-- r is the lowest number below n that 0 does not reach across pairs of words, as their polygons, or n
+pub record LowestCut (l : List ℕ) (n r : ℕ) : Type 0 where
+  pub within : r ≤ n
+  pub before : (k : ℕ) → k < r → Reach (λ p. p ≡ 0) (Joined l polyOf) k
+  pub cut : r < n → Reach (λ p. p ≡ 0) (Joined l polyOf) r → ⊥
+
+-- the point of a word's corner, where its step starts
+abbrev pub pointOf : List ℕ → ℕ → ℕ
+pointOf es w = getD es (stepOf w) 0
+
+-- the points of the words' corners are few
+pub record Pointed (es l : List ℕ) : Type 0 where
+  pub size : length es ≡ 1024
+  pub point : (i : ℕ) → i < length l → pointOf es (getD l i 0) < 1024
+
+-- the marks hold one corner of each point
+pub record Seeds (es l m : List ℕ) : Type 0 where
+  pub marks : Marks m
+  pub node : (e : ℕ) → Marked m e → (i : ℕ) × (i < length l) × (stepOf (getD l i 0) ≡ e)
+  pub first : (i : ℕ) → i < length l → (e : ℕ) × Marked m e × (getD es e 0 ≡ pointOf es (getD l i 0))
+  pub lone : (e f : ℕ) → Marked m e → Marked m f → getD es e 0 ≡ getD es f 0 → e ≡ f
+
+-- a corner at v has no mark
+pub record Cut (es l m : List ℕ) (v : ℕ) : Type 0 where
+  pub at : ℕ
+  pub within : at < length l
+  pub bare : getD m (stepOf (getD l at 0)) 0 ≡ 0
+  pub point : pointOf es (getD l at 0) ≡ v
+
+-- r is the lowest point with a corner that the first corner of its point does not reach across pairs, or 65536
+pub record Unlinks (es l : List ℕ) (r : ℕ) : Type 0 where
+  pub from : List ℕ
+  pub seeds : Seeds es l from
+  pub to : List ℕ
+  pub flood : Flooded (Joins 1 2 l) from to
+  pub least : LeastBelow (Cut es l to) 65536 r
