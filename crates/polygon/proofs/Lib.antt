@@ -2,3 +2,5 @@
 mod Rings
 mod Numbers
 mod Sums
+mod Sizing
+mod Even

@@ -44,3 +44,11 @@ rows-three {a} {b} {c} {d} {e} {f} {g} {h} {i} p q r = record { each = each }
     each (suc zero) = q
     each (suc (suc zero)) = r
     each (suc (suc (suc k))) = record { x = small-zero; y = small-zero; z = small-zero }
+
+-- the numbers of a place p that a call returned, of which it ensures that it is q
+abbrev pub returned : {p q : Point} → p ≡ q → Near 100000 q → List Leaf → List Leaf
+returned {p} {q} e h ls =
+    got (p .x) (q .x) (ap (λ (r : Point). r .x) e) (h .x) ∷ got (p .y) (q .y) (ap (λ (r : Point). r .y) e) (h .y) ∷ got (p .z) (q .z) (ap (λ (r : Point). r .z) e) (h .z) ∷ ls
+  where
+    got : (y z : ℤ) → y ≡ z → Small 100000 z → Leaf
+    got y z e s = record { seen = seen y; is = z; size = 100000; same = small-back w64 tt (subst (λ (x : ℤ). Small 100000 x) (sym e) s) ∙ e; small = s }

@@ -5,8 +5,9 @@ use mathlib.Core.Path.{_≡_, refl, sym, ap, ap₂, _∙_}
 use mathlib.Core.Bool.{Bool, true, false, not}
 use mathlib.Core.List.{List, [], _∷_}
 use lib.Dec.{eqb}
-use lib.ListN.{length, getD, take}
-use Rattle.whole.specs.Lists.{lastOf, front}
+use lib.ListN.{length, getD, take, drop, length-drop}
+use lib.Seq.{take-all}
+use Rattle.whole.specs.Lists.{any, lastOf, front}
 use Rattle.polygon.specs.Ring.{isUnclosed}
 
 last-at : (a : ℕ) (l : List ℕ) → lastOf a l ≡ getD (a ∷ l) (length l) 0
@@ -29,3 +30,16 @@ closed-is [] n e f = absurd (f e)
 closed-is (a ∷ l) n e f =
     let m : n - 1 ≡ length l = omega arith in
     ap (λ (i : ℕ). eqb a (getD (a ∷ l) i 0)) m ∙ ap (eqb a) (sym (last-at a l)) ∙ sym (not-not (eqb a (lastOf a l)))
+
+-- what is lent of a list from i on is all that is left
+pub rest-is : (r : ℕ → ℕ → Bool) (l : List ℕ) (i d : ℕ) → any (r (getD l i d)) (take (length l - (i + 1)) (drop (i + 1) l)) ≡ any (r (getD l i d)) (drop (i + 1) l)
+rest-is r l i d = ap (any (r (getD l i d))) (take-all (length l - (i + 1)) (drop (i + 1) l) (simp length-drop (omega arith)))
+
+-- ---- all but the last
+pub front-is : (l : List ℕ) → front l ≡ take (length l - 1) l
+unfolding front
+front-is [] = refl
+front-is (a ∷ []) = refl
+front-is (a ∷ b ∷ l) =
+    let e : suc (suc (length l) - 1) ≡ suc (suc (length l)) - 1 = omega arith in
+    ap (λ (m : List ℕ). a ∷ m) (front-is (b ∷ l)) ∙ ap (λ (n : ℕ). take n (a ∷ b ∷ l)) e

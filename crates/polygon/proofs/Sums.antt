@@ -2,7 +2,7 @@
 use Prim.Native.Nat.{ℕ, zero, suc, _+_, _*_, _-_, _≤_, _<_, _^_}
 use native.Mathlib.Omega.{arith}
 use mathlib.Core.Path.{_≡_, refl, sym, ap, ap₂, _∙_, subst}
-use mathlib.Core.List.{List, [], _∷_, map}
+use mathlib.Core.List.{List, [], _∷_, map, foldr}
 use mathlib.Core.Bool.{true, _&&_}
 use lib.Dec.{T, ltb}
 use lib.ListN.{length, getD, drop}
@@ -14,10 +14,13 @@ use Rattle.whole.specs.Size.{Small, small-zero}
 use Rattle.whole.specs.Solve.{v, _⊕_}
 use Rattle.whole.specs.Mach.{Leaf, whole, bits-of, yields}
 use Rattle.whole.specs.Sum.{next, Acc, acc-step, acc-small}
-use Rattle.polygon.specs.Space.{Point, origin, determinant, places}
-use Rattle.polygon.specs.Ring.{partAbout, part}
+use Rattle.polygon.specs.declared.Axis.{Axis}
+use Rattle.polygon.specs.declared.Axis.the-variants.{X, Y, Z}
+use Rattle.polygon.specs.Space.{Point, origin, plus, relativeTo, cross, determinant, places}
+use Rattle.polygon.specs.Ring.{relative, normal, partAbout, part}
 use Rattle.polygon.specs.Held.{pointsOf, placeAt, Coords, Known}
-use Rattle.polygon.specs.Sizes.{near-place, point-at, part-step-small}
+use Rattle.polygon.specs.Sizes.{near-place, near-same, near-way, near-cross, point-at, part-step-small}
+use Rattle.polygon.specs.Leaves.{Near}
 
 -- ---- how far a loop has come: entry i of n is next, and last was before it
 pub record Going (ring : List ℕ) (n first last i : ℕ) : Type 0 where
@@ -105,3 +108,68 @@ going-few k g = omega (arith, k .few, g .all, g .upto)
 
 pub going-in : {ring : List ℕ} {n first last i : ℕ} → Going ring n first last i → i < n → i < length ring
 going-in g l = omega (arith, g .all)
+
+-- ---- the normal, one component at a time
+abbrev pub on : Axis → Point → ℤ
+on X p = p .x
+on Y p = p .y
+on Z p = p .z
+
+on-plus : (axis : Axis) (p q : Point) → on axis (plus p q) ≡ on axis p +ℤ on axis q
+unfolding plus
+on-plus X p q = refl
+on-plus Y p q = refl
+on-plus Z p q = refl
+
+on-origin : (axis : Axis) → on axis origin ≡ pos 0
+unfolding origin
+on-origin X = refl
+on-origin Y = refl
+on-origin Z = refl
+
+on-near : {n : ℕ} {p : Point} (axis : Axis) → Near n p → Small n (on axis p)
+on-near X h = h .x
+on-near Y h = h .y
+on-near Z h = h .z
+
+-- the cross product of two entries, relative to the first
+abbrev pub crossStep : List Point → ℕ → ℕ → ℕ → Point
+crossStep points a p q = cross (relativeTo (getD points a origin) (getD points p origin)) (relativeTo (getD points a origin) (getD points q origin))
+
+abbrev pub normalStep : List Point → ℕ → Axis → ℕ → ℕ → ℤ
+normalStep points a axis = λ p q. on axis (crossStep points a p q)
+
+normal-next : (points : List Point) (a : ℕ) (axis : Axis) (p : ℕ) (l : List ℕ)
+    → on axis (foldr (λ s n. plus (cross (s .0) (s .1)) n) origin (stepsFrom (relativeTo (getD points a origin) (getD points p origin)) (map (relativeTo (getD points a origin)) (map (λ n. getD points n origin) l))))
+    ≡ next (normalStep points a axis) p l
+unfolding stepsFrom next
+normal-next points a axis p [] = on-origin axis
+normal-next points a axis p (q ∷ l) = on-plus axis (crossStep points a p q) _ ∙ ap (λ (z : ℤ). on axis (crossStep points a p q) +ℤ z) (normal-next points a axis q l)
+
+pub normal-start : (points : List Point) (ring : List ℕ) (axis : Axis) → 1 ≤ length ring
+    → Acc (normalStep points (getD ring 0 0) axis) 80000000000 (on axis (normal (places points ring))) ring (getD ring 0 0) 1 (pos 0)
+unfolding normal relative places steps
+normal-start points [] axis h = absurd (omega arith)
+normal-start points (a ∷ l) axis h = record { is = +ℤ-idl (next (normalStep points a axis) a l) ∙ sym (normal-next points a axis a l); size = small-zero }
+
+-- the three sums of the loop
+pub record Sums (points : List Point) (ring : List ℕ) (first last i : ℕ) (x y z : ℤ) : Type 0 where
+  pub on-x : Acc (normalStep points first X) 80000000000 (on X (normal (places points ring))) ring last i x
+  pub on-y : Acc (normalStep points first Y) 80000000000 (on Y (normal (places points ring))) ring last i y
+  pub on-z : Acc (normalStep points first Z) 80000000000 (on Z (normal (places points ring))) ring last i z
+
+-- the ways of a step, as code finds them
+pub way-is : {flat : List ℤ} {ring : List ℕ} {n first last i : ℕ} {p : Point} (e : ℕ) → Coords flat → Going ring n first last i → e < 512
+    → p ≡ relativeTo (placeAt flat first) (placeAt flat e) → p ≡ relativeTo (getD (pointsOf flat) first origin) (getD (pointsOf flat) e origin)
+way-is {first = first} e h g k q = q ∙ (λ i. relativeTo (sym (point-at h first (g .head-known)) i) (sym (point-at h e k) i))
+
+pub way-near : {flat : List ℤ} {p : Point} (a e : ℕ) → Coords flat → p ≡ relativeTo (placeAt flat a) (placeAt flat e) → Near 200000 p
+way-near a e h q = near-same q (near-way (near-place h a) (near-place h e))
+
+-- the cross product that the loop adds
+pub cross-next : {flat : List ℤ} {ring : List ℕ} {n first last i : ℕ} {p q r : Point} → Coords flat → Known ring → Going ring n first last i → i < n
+    → p ≡ relativeTo (placeAt flat first) (placeAt flat last) → q ≡ relativeTo (placeAt flat first) (placeAt flat (getD ring i 0)) → r ≡ cross p q
+    → (axis : Axis) → (on axis r ≡ normalStep (pointsOf flat) first axis last (getD ring i 0)) × Small 80000000000 (on axis r)
+cross-next {flat} {ring} {n} {first} {last} {i} {p} {q} {r} h k g l e f c axis =
+    let same : r ≡ crossStep (pointsOf flat) first last (getD ring i 0) = c ∙ (λ j. cross (way-is last h g (g .last-known) e j) (way-is (getD ring i 0) h g (going-next k g l .last-known) f j)) in
+    (ap (on axis) same, on-near axis (near-same c (near-cross (way-near first last h e) (way-near first (getD ring i 0) h f))))

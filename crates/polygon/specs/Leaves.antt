@@ -2,7 +2,9 @@
 use Prim.Native.Nat.{ℕ, _+_, _*_, _<_}
 use mathlib.Core.Path.{_≡_}
 use mathlib.Core.List.{List, []}
+use mathlib.Core.Bool.{cond}
 use lib.ListN.{getD}
+use lib.Signed.{ltZ}
 use lib.IntN.{ℤ, pos}
 use Rattle.whole.specs.Size.{Small}
 use Rattle.polygon.specs.declared.Place.{Place}
@@ -14,6 +16,12 @@ at x y z = record { x = x; y = y; z = z }
 -- the point that code holds as a `Place`
 abbrev pub asPoint : Place → Point
 asPoint p = at (p .x) (p .y) (p .z)
+
+abbrev pub least : ℤ → ℤ → ℤ
+least p q = cond (ltZ q p) q p
+
+abbrev pub most : ℤ → ℤ → ℤ
+most p q = cond (ltZ q p) p q
 
 -- a point's numbers are at most n in size
 pub record Near (n : ℕ) (p : Point) : Type 0 where

@@ -2,12 +2,17 @@
 ghost use mathlib.Core.Path.{_≡_};
 ghost use mathlib.Core.Bool.{not};
 ghost use Prim.Native.Nat.{ℕ, _+_, _<_, _≤_};
+ghost use lib.Dec.{eqb};
 ghost use lib.ListN.{length, getD, drop};
-ghost use Rattle.whole.specs.Lists.{lists};
-ghost use Rattle.polygon.specs.Space.{determinant};
-ghost use Rattle.polygon.specs.Ring.{isUnclosed, finding, part};
+ghost use lib.IntN.{pos, natAbs};
+ghost use lib.Signed.{ltZ};
+ghost use Rattle.whole.specs.Lists.{lists, anyTwo};
+ghost use Rattle.whole.specs.Size.{Small};
+ghost use Rattle.polygon.specs.Space.{determinant, relativeTo, cross, dot, places};
+ghost use Rattle.polygon.specs.Plane.{largestAxis};
+ghost use Rattle.polygon.specs.Ring.{isUnclosed, isRepeated, normal, isZero, size, isUneven, finding, part};
 ghost use Rattle.polygon.specs.Held.{pointsOf, placeAt, Coords, Known};
-ghost use Rattle.polygon.specs.Leaves.{asPoint, rowOf, Rows, Nine, at};
+ghost use Rattle.polygon.specs.Leaves.{asPoint, rowOf, Rows, Nine, Near, at, least, most};
 
 // A polygon's finding; `Sound` where no check fails. `findingNumber` gives document 01's number.
 pub enum Finding {
@@ -139,4 +144,203 @@ pub fn part_of(points: &[i64; 1536], ring: &[u16]) -> i64
         i += 1;
     }
     sum
+}
+
+// Whether some number stands twice in a list.
+fn stands_twice(list: &[u16]) -> bool
+    ensures { λ r. ⌜ r ≡ anyTwo eqb (now (list .entry)) ⌝ }
+{
+    let n = list.len();
+    let mut i: usize = 0;
+    while i < n {
+        let next = i + 1;
+        let x = list[i];
+        if lists(&list[next..], x) {
+            return true;
+        }
+        i = next;
+    }
+    false
+}
+
+// 03: "with the last entry left aside, some number stands twice"
+fn is_repeated(ring: &[u16]) -> bool
+    requires { ⌜ 1 ≤ length (now ring) ⌝ }
+    ensures { λ r. ⌜ r ≡ isRepeated (now (ring .entry)) ⌝ }
+{
+    let last = ring.len() - 1;
+    stands_twice(&ring[..last])
+}
+
+// q relative to p.
+fn toward(points: &[i64; 1536], p: u16, q: u16) -> Place
+    requires { ⌜ Coords (now points) ⌝ }
+    requires { ⌜ (p < 512) × (q < 512) ⌝ }
+    ensures { λ r. ⌜ asPoint r ≡ relativeTo (placeAt (now (points .entry)) p) (placeAt (now (points .entry)) q) ⌝ }
+{
+    let a = place_of(points, p);
+    let b = place_of(points, q);
+    let ax = a.x;
+    let ay = a.y;
+    let az = a.z;
+    let bx = b.x;
+    let by = b.y;
+    let bz = b.z;
+    let x = bx - ax;
+    let y = by - ay;
+    let z = bz - az;
+    Place { x, y, z }
+}
+
+// The cross product of two ways.
+fn cross(a: Place, b: Place) -> Place
+    requires { ⌜ (Near 200000 (asPoint a)) × (Near 200000 (asPoint b)) ⌝ }
+    ensures { λ r. ⌜ asPoint r ≡ cross (asPoint a) (asPoint b) ⌝ }
+{
+    let ax = a.x;
+    let ay = a.y;
+    let az = a.z;
+    let bx = b.x;
+    let by = b.y;
+    let bz = b.z;
+    let x = ay * bz - az * by;
+    let y = az * bx - ax * bz;
+    let z = ax * by - ay * bx;
+    Place { x, y, z }
+}
+
+// N·p, for a normal and a way.
+fn dot(a: Place, b: Place) -> i64
+    requires { ⌜ (Near 10160000000000 (asPoint a)) × (Near 200000 (asPoint b)) ⌝ }
+    ensures { λ r. ⌜ r ≡ dot (asPoint a) (asPoint b) ⌝ }
+{
+    let ax = a.x;
+    let ay = a.y;
+    let az = a.z;
+    let bx = b.x;
+    let by = b.y;
+    let bz = b.z;
+    ax * bx + ay * by + az * bz
+}
+
+// "the normal N is the sum, over consecutive entries, of the cross product of the two"
+fn normal(points: &[i64; 1536], ring: &[u16]) -> Place
+    requires { ⌜ Coords (now points) ⌝ }
+    requires { ⌜ Known (now ring) ⌝ }
+    requires { ⌜ 1 ≤ length (now ring) ⌝ }
+    ensures { λ r. ⌜ asPoint r ≡ normal (places (pointsOf (now (points .entry))) (now (ring .entry))) ⌝ }
+{
+    let mut x: i64 = 0;
+    let mut y: i64 = 0;
+    let mut z: i64 = 0;
+    let n = ring.len();
+    let first = ring[0];
+    let mut last = first;
+    let mut i: usize = 1;
+    while i < n {
+        let next = ring[i];
+        let c = cross(toward(points, first, last), toward(points, first, next));
+        let cx = c.x;
+        let cy = c.y;
+        let cz = c.z;
+        x += cx;
+        y += cy;
+        z += cz;
+        last = next;
+        i += 1;
+    }
+    Place { x, y, z }
+}
+
+// 04: "N is zero in all three components"
+fn is_zero(n: Place) -> bool
+    requires { ⌜ Near 10160000000000 (asPoint n) ⌝ }
+    ensures { λ r. ⌜ r ≡ isZero (asPoint n) ⌝ }
+{
+    let x = n.x;
+    let y = n.y;
+    let z = n.z;
+    (x == 0) & (y == 0) & (z == 0)
+}
+
+// The size of a number.
+fn size(z: i64) -> i64
+    requires { ⌜ Small 9000000000000000000 z ⌝ }
+    ensures { λ r. ⌜ r ≡ pos (natAbs z) ⌝ }
+{
+    if z < 0 { -z } else { z }
+}
+
+// The larger of two numbers, and the smaller.
+fn upper(p: i64, q: i64) -> i64
+    ensures { λ r. ⌜ r ≡ most p q ⌝ }
+{
+    if q < p { p } else { q }
+}
+
+fn lower(p: i64, q: i64) -> i64
+    ensures { λ r. ⌜ r ≡ least p q ⌝ }
+{
+    if q < p { q } else { p }
+}
+
+// "the largest size of N's components"
+fn largest(n: Place) -> i64
+    requires { ⌜ Near 10160000000000 (asPoint n) ⌝ }
+    ensures { λ r. ⌜ r ≡ pos (size (asPoint n)) ⌝ }
+{
+    let x = n.x;
+    let y = n.y;
+    let z = n.z;
+    upper(size(x), upper(size(y), size(z)))
+}
+
+// "the axis where N is largest in size (ties: x, then y)"
+fn largest_axis(n: Place) -> Axis
+    requires { ⌜ Near 10160000000000 (asPoint n) ⌝ }
+    ensures { λ r. ⌜ r ≡ largestAxis (asPoint n) ⌝ }
+{
+    let x = n.x;
+    let y = n.y;
+    let z = n.z;
+    let a = size(x);
+    let b = size(y);
+    let c = size(z);
+    if (b <= a) & (c <= a) {
+        return Axis::X;
+    }
+    if c <= b {
+        return Axis::Y;
+    }
+    Axis::Z
+}
+
+// Whether the size of N·(p - first) exceeds a limit.
+fn is_off(points: &[i64; 1536], n: Place, first: u16, p: u16, limit: i64) -> bool
+    requires { ⌜ Coords (now points) ⌝ }
+    requires { ⌜ (first < 512) × (p < 512) ⌝ }
+    requires { ⌜ Near 10160000000000 (asPoint n) ⌝ }
+    ensures { λ r. ⌜ r ≡ ltZ limit (pos (natAbs (dot (asPoint n) (relativeTo (placeAt (now (points .entry)) first) (placeAt (now (points .entry)) p))))) ⌝ }
+{
+    size(dot(n, toward(points, first, p))) > limit
+}
+
+// 06: "for some point p, the size of N·(p - first) exceeds tolerance times the largest size of N's components"
+fn is_uneven(points: &[i64; 1536], ring: &[u16], tolerance: u16, n: Place) -> bool
+    requires { ⌜ Coords (now points) ⌝ }
+    requires { ⌜ Known (now ring) ⌝ }
+    requires { ⌜ (1 ≤ length (now ring)) × (tolerance ≤ 1000) ⌝ }
+    requires { ⌜ Near 10160000000000 (asPoint n) ⌝ }
+    ensures { λ r. ⌜ r ≡ isUneven tolerance (asPoint n) (places (pointsOf (now (points .entry))) (now (ring .entry))) ⌝ }
+{
+    let limit = (tolerance as i64) * largest(n);
+    let first = ring[0];
+    let mut i: usize = 0;
+    while i < ring.len() {
+        if is_off(points, n, first, ring[i], limit) {
+            return true;
+        }
+        i += 1;
+    }
+    false
 }

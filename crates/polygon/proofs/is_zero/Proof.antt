@@ -1,0 +1,19 @@
+use Rattle.polygon.proofs.Sizing.{zero-test}
+use Rattle.polygon.specs.Ring.{isZero}
+use Rattle.whole.specs.Size.{small-fits}
+use mathlib.Core.Bool.{_&&_}
+use mathlib.Core.Path.{ap₂}
+use Rattle.polygon.proofs.is_zero.Statement.{statement}
+use Rattle.polygon.proofs.is_zero.Tie as tie
+use Rattle.polygon.proofs.is_zero.Reads as reads
+use Rattle.polygon.proofs.is_zero.Lts as lts
+
+-- src/lib.rt:256:1
+returns : tie.Need-returns
+unfolding isZero
+returns c =
+    let h = c .before .before .before .pre in
+    ap₂ _&&_ (ap₂ _&&_ (zero-test (small-fits tt (h .x))) (zero-test (small-fits tt (h .y)))) (zero-test (small-fits tt (h .z)))
+
+pub is-zero-spec : {M : Type 1} → statement M
+is-zero-spec = tie.close (tie.spec returns)
