@@ -1,15 +1,19 @@
 -- How the arrays and the scalars hold a building.
 use Prim.Native.Nat.{ℕ, _+_, _*_, _≤_, _<_}
 use mathlib.Core.Path.{_≡_}
+use mathlib.Core.Bool.{Bool, true}
 use mathlib.Core.List.{List}
+use mathlib.Core.Logic.{_⊎_}
 use lib.ListN.{length, getD, take, set}
 use lib.IntN.{ℤ, pos}
 use Rattle.polygon.specs.Space.{Point}
 use Rattle.polygon.specs.Ring.{finding, findingNumber, part}
 use Rattle.polygon.specs.Held.{pointsOf, Coords}
 use Rattle.shell.specs.Held.{ringAt, rings, Starts, Entries}
+use Rattle.shell.specs.Kept.{Edged}
 use Rattle.building.specs.declared.Scalars.{Scalars}
 use Rattle.building.specs.Tables.{Tables, Building}
+use Rattle.building.specs.Findings.{isBroken}
 
 abbrev pub point3 : ℤ → ℤ → ℤ → Point
 point3 x y z = record { x = x; y = y; z = z }
@@ -76,3 +80,29 @@ pub record Found (points : List ℤ) (entries starts findings : List ℕ) (s : S
 pub record Summed (points : List ℤ) (entries starts : List ℕ) (parts : List ℤ) (s : Scalars) : Type 0 where
   pub size : length parts ≡ 256
   pub each : (p : ℕ) → p < s .polygons → getD parts p (pos 0) ≡ part (pointsOf points) (ringAt entries starts p)
+
+-- some ring fails one of checks 01 to 03, which no correction mends
+pub record Broken (entries starts : List ℕ) (n : ℕ) : Type 0 where
+  pub polygon : ℕ
+  pub below : polygon < n
+  pub broken : isBroken (ringAt entries starts polygon) ≡ true
+
+-- what is kept of a held building is what the definitions give for the present points and rings
+pub record Kept (points : List ℤ) (entries starts findings : List ℕ) (parts : List ℤ) (table turned : List ℕ) (s : Scalars) : Type 0 where
+  pub found : Found points entries starts findings s
+  pub summed : Summed points entries starts parts s
+  pub table-size : length table ≡ 1024
+  pub turned-size : length turned ≡ 256
+  pub flags : (p : ℕ) → getD turned p 0 ≤ 1
+  pub shaped : Broken entries starts (s .polygons) ⊎ Edged (rings entries starts (s .polygons)) table (s .edges) turned (s .fixed)
+
+-- a held building
+pub record Held (a : Arrays) (s : Scalars) : Type 0 where
+  pub loaded : Loaded (a .points) (a .entries) (a .starts) s
+  pub stamped : length (a .stamps) ≡ 256
+  pub kept : Kept (a .points) (a .entries) (a .starts) (a .findings) (a .parts) (a .table) (a .turned) s
+
+-- what is held after it is the building b
+pub record Did (b : Building) (a : Arrays) (s : Scalars) : Type 0 where
+  pub held : Held a s
+  pub is : heldBuilding a s ≡ b

@@ -2,22 +2,25 @@
 use polygon::Finding;
 use shell::Shape;
 ghost use mathlib.Core.Path.{_≡_};
-ghost use mathlib.Core.Bool.{Bool, cond};
-ghost use mathlib.Core.List.{List, reverse};
-ghost use Prim.Native.Nat.{ℕ, _+_, _*_, _-_, _<_, _≤_};
+ghost use mathlib.Core.Bool.{false};
+ghost use mathlib.Core.List.{reverse};
+ghost use Prim.Native.Nat.{_+_, _*_, _-_, _<_, _≤_};
 ghost use lib.Dec.{ltb};
 ghost use lib.ListN.{length, getD, set, take};
 ghost use lib.Seq.{sets};
-ghost use lib.IntN.{ℤ, pos, natAbs};
+ghost use lib.IntN.{pos, natAbs};
 ghost use Rattle.whole.specs.Lists.{tally, sumOf};
 ghost use Rattle.polygon.specs.Space.{samePlace};
-ghost use Rattle.polygon.specs.Ring.{findingNumber};
-ghost use Rattle.polygon.specs.Held.{pointsOf, placeAt};
+ghost use Rattle.polygon.specs.Ring.{finding, findingNumber, part};
+ghost use Rattle.polygon.specs.Held.{pointsOf, placeAt, Coords, Known};
+ghost use Rattle.shell.specs.Held.{ringAt};
 ghost use Rattle.shell.specs.Shell.{shapeNumber, shapeA, shapeB};
 ghost use Rattle.building.specs.Tables.{isFar, standsElse};
+ghost use Rattle.building.specs.Tables as Tables;
 ghost use Rattle.building.specs.Report.{checkNumber, elementA, elementB};
 ghost use Rattle.building.specs.Lists.{cut};
-ghost use Rattle.building.specs.Holds.{point3, placed};
+ghost use Rattle.building.specs.Holds.{point3, placed, arrays, heldBuilding, Held, Did};
+ghost use Rattle.building.specs.Rings.{Ring, turnedEntries};
 ghost use Rattle.building.specs.Places.{elseAt};
 ghost use Rattle.building.specs.Scans.{lowest, Summable};
 
@@ -124,6 +127,106 @@ fn reverse_in(entries: &mut [u16; 1024], from: usize, to: usize)
     }
 }
 
+// Document 01's number of a finding.
+fn finding_number(f: Finding) -> u8
+    ensures { λ r. ⌜ r ≡ findingNumber f ⌝ }
+{
+    match f {
+        Finding::Sound => 0,
+        Finding::Short => 1,
+        Finding::Unclosed => 2,
+        Finding::Repeated => 3,
+        Finding::NoNormal => 4,
+        Finding::Crossed => 5,
+        Finding::Uneven => 6,
+    }
+}
+
+// The finding of a number.
+fn finding_from(n: u8) -> Finding
+    requires { ⌜ n ≤ 6 ⌝ }
+    ensures { λ r. ⌜ findingNumber r ≡ n ⌝ }
+{
+    match n {
+        0 => Finding::Sound,
+        1 => Finding::Short,
+        2 => Finding::Unclosed,
+        3 => Finding::Repeated,
+        4 => Finding::NoNormal,
+        5 => Finding::Crossed,
+        _ => Finding::Uneven,
+    }
+}
+
+// The part of a ring that has been turned, from what it was: negated where the ring is closed, and otherwise summed anew, since
+// another entry is its first.
+fn turned_part(points: &[i64; 1536], ring: &[u16], before: i64) -> i64
+    requires { ⌜ Coords (now points) ⌝ }
+    requires { ⌜ Known (now ring) ⌝ }
+    requires { ⌜ before ≡ part (pointsOf (now points)) (reverse (now ring)) ⌝ }
+    ensures { λ r. ⌜ r ≡ part (pointsOf (now (points .entry))) (now (ring .entry)) ⌝ }
+{
+    if polygon::is_closed(ring) {
+        return -before;
+    }
+    polygon::part_of(points, ring)
+}
+
+// Ring p backwards in its place, and its part.
+fn turn_ring(
+    points: &[i64; 1536],
+    entries: &mut [u16; 1024],
+    starts: &[u16; 257],
+    parts: &mut [i64; 256],
+    p: usize,
+)
+    requires { ⌜ Coords (now points) ⌝ }
+    requires { ⌜ Ring (now entries) (now starts) p ⌝ }
+    requires { ⌜ (length (now parts) ≡ 256) × (getD (now parts) p (pos 0) ≡ part (pointsOf (now points)) (ringAt (now entries) (now starts) p)) ⌝ }
+    ensures { λ _. ⌜ now (entries .exit) ≡ turnedEntries (now (entries .entry)) (now (starts .entry)) p ⌝ }
+    ensures { λ _. ⌜ now (parts .exit) ≡ set (now (parts .entry)) p (part (pointsOf (now (points .entry))) (reverse (ringAt (now (entries .entry)) (now (starts .entry)) p))) ⌝ }
+{
+    let from = starts[p] as usize;
+    let to = starts[p + 1] as usize;
+    reverse_in(entries, from, to);
+    let all = &entries[..];
+    let before = parts[p];
+    let part = turned_part(points, &all[from..to], before);
+    parts[p] = part;
+}
+
+// "Turn reverses the polygon's whole list of entries, closing entry included", and stamps it.
+pub fn turn_polygon(
+    points: &[i64; 1536],
+    entries: &mut [u16; 1024],
+    starts: &[u16; 257],
+    stamps: &mut [u32; 256],
+    findings: &[u8; 256],
+    parts: &mut [i64; 256],
+    table: &[u64; 1024],
+    turned: &mut [u8; 256],
+    s: Scalars,
+    number: u32,
+    n: usize,
+) -> Scalars
+    requires { ⌜ Held (arrays (now points) (now entries) (now starts) (now stamps) (now findings) (now parts) (now table) (now turned)) s ⌝ }
+    requires { ⌜ n < s .polygons ⌝ }
+    ensures { λ r. ⌜ Did (Tables.turned number n (heldBuilding (arrays (now (points .entry)) (now (entries .entry)) (now (starts .entry)) (now (stamps .entry)) (now (findings .entry)) (now (parts .entry)) (now (table .entry)) (now (turned .entry))) s)) (arrays (now (points .entry)) (now (entries .exit)) (now (starts .entry)) (now (stamps .exit)) (now (findings .entry)) (now (parts .exit)) (now (table .entry)) (now (turned .exit))) r ⌝ }
+{
+    turn_ring(points, entries, starts, parts, n);
+    stamps[n] = number;
+    turned[n] = 1 - turned[n];
+    let fixed = s.fixed;
+    Scalars {
+        tolerance: s.tolerance,
+        points: s.points,
+        polygons: s.polygons,
+        last: number,
+        edges: s.edges,
+        fixed: fixed,
+    }
+}
+
 // The lowest of the first n polygons that has a finding; n if there is none.
 fn lowest_of(findings: &[u8; 256], n: usize) -> usize
     requires { ⌜ (n ≤ 256) × (length (now findings) ≡ 256) ⌝ }
@@ -167,37 +270,6 @@ pub fn six_volume(parts: &[i64; 256], n: usize) -> i64
         i += 1;
     }
     total
-}
-
-// Document 01's number of a finding.
-fn finding_number(f: Finding) -> u8
-    ensures { λ r. ⌜ r ≡ findingNumber f ⌝ }
-{
-    match f {
-        Finding::Sound => 0,
-        Finding::Short => 1,
-        Finding::Unclosed => 2,
-        Finding::Repeated => 3,
-        Finding::NoNormal => 4,
-        Finding::Crossed => 5,
-        Finding::Uneven => 6,
-    }
-}
-
-// The finding of a number.
-fn finding_from(n: u8) -> Finding
-    requires { ⌜ n ≤ 6 ⌝ }
-    ensures { λ r. ⌜ findingNumber r ≡ n ⌝ }
-{
-    match n {
-        0 => Finding::Sound,
-        1 => Finding::Short,
-        2 => Finding::Unclosed,
-        3 => Finding::Repeated,
-        4 => Finding::NoNormal,
-        5 => Finding::Crossed,
-        _ => Finding::Uneven,
-    }
 }
 
 // Document 01's number of the check that a shape names.
