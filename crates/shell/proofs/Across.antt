@@ -16,6 +16,7 @@ use Rattle.shell.specs.Edges.{edge, edgesOf, all, count, usedOnce, usedO
 use Rattle.shell.specs.Reach.{Reach, start, step}
 use Rattle.shell.specs.Shell.{notReached}
 use Rattle.shell.specs.Closure.{In}
+use Rattle.shell.specs.Tabs.{length-tab, getD-tab}
 use Rattle.shell.specs.Held.{ringAt, rings}
 use Rattle.shell.specs.Table.{keyOf, polyOf, wordsTo, ascending, stepWord}
 use Rattle.shell.specs.Kept.{Loaded}
@@ -23,7 +24,7 @@ use Rattle.shell.specs.Tallies.{tally-map, in-place, place-in}
 use Rattle.shell.specs.Ascending.{Asc, asc-ascending, tally-ascending, in-ascending, ascending-in}
 use Rattle.shell.specs.Marking.{Least, LeastAt, Between, Joined, LowestCut}
 use Rattle.shell.specs.Adequate.{Is, is-some, is-none, uses, once-is, often-is, apart-is, Shares, Unreached, ring-below, in-all, used}
-use Rattle.shell.proofs.Uses.{Use, words-use, use-words, step-use, use-key, use-poly, keys-all, ring-edges, in-span, span-in, length-tab, getD-tab}
+use Rattle.shell.proofs.Uses.{Use, words-use, use-words, step-use, use-key, use-poly, keys-all, ring-edges, in-span, span-in}
 use Rattle.shell.proofs.Runs.{key-at}
 use Rattle.shell.proofs.Pairs.{Pairs, pairs, pairs-even, pairs-same, ofEdge, tally-keys}
 

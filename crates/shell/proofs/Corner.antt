@@ -30,7 +30,7 @@ use Rattle.shell.proofs.Across.{least-as, rings-length, ring-is, place-
 use Rattle.shell.proofs.Fans.{Corners, linked-around, apart-around}
 
 -- the polygon whose ring stands at i: the last that starts there or before
-owner : List ℕ → ℕ → ℕ → ℕ
+pub owner : List ℕ → ℕ → ℕ → ℕ
 owner st zero i = 0
 owner st (suc n) i = elim (leb (getD st (suc n) 0) i) [ true ↦ suc n | false ↦ owner st n i ]
 
@@ -62,7 +62,7 @@ module _ (es st : List ℕ) (n : ℕ) (l : Loaded es st n) where
   abbrev table : List ℕ
   table = ascending (wordsTo es st n)
 
-  abbrev Node : ℕ → Type 0
+  abbrev pub Node : ℕ → Type 0
   Node e = (i : ℕ) × (i < length table) × (stepOf (getD table i 0) ≡ e)
 
   -- the entries of ring p
@@ -115,19 +115,19 @@ module _ (es st : List ℕ) (n : ℕ) (l : Loaded es st n) where
       some : (a b : ℕ) → a + 4 ≤ b → a < b
       some a b h = omega arith
 
-  owned : (p i : ℕ) → p < n → getD st p 0 ≤ i → i < getD st (p + 1) 0 → owner st n i ≡ p
+  pub owned : (p i : ℕ) → p < n → getD st p 0 ≤ i → i < getD st (p + 1) 0 → owner st n i ≡ p
   owned p i h f t = owner-is st n p i (omega arith) f (λ q a b. above (getD st (p + 1) 0) (getD st q 0) i t (l .begin .ordered (p + 1) q (omega arith) b))
     where
       above : (x y i : ℕ) → i < x → x ≤ y → i < y
       above x y i a b = omega arith
 
   -- the entry after a step's first one is a step's first one too
-  record After (p i k : ℕ) : Type 0 where
-    from : getD st p 0 ≤ k
-    to : k + 1 < getD st (p + 1) 0
-    point : getD es k 0 ≡ getD es (i + 1) 0
+  pub record After (p i k : ℕ) : Type 0 where
+    pub from : getD st p 0 ≤ k
+    pub to : k + 1 < getD st (p + 1) 0
+    pub point : getD es k 0 ≡ getD es (i + 1) 0
 
-  after : (p i : ℕ) → p < n → getD st p 0 ≤ i → i + 1 < getD st (p + 1) 0 → After p i (nextAt (getD st p 0) (getD st (p + 1) 0) i)
+  pub after : (p i : ℕ) → p < n → getD st p 0 ≤ i → i + 1 < getD st (p + 1) 0 → After p i (nextAt (getD st p 0) (getD st (p + 1) 0) i)
   after p i h f t = go (eqb (i + 2) (getD st (p + 1) 0)) refl
     where
       last : (b : ℕ) → i + 2 ≡ b → b - 1 ≡ i + 1
@@ -144,7 +144,7 @@ module _ (es st : List ℕ) (n : ℕ) (l : Loaded es st n) where
       go false e = record { from = omega arith; to = inner (getD st (p + 1) 0) t (eqb-false (i + 2) (getD st (p + 1) 0) e); point = refl }
 
   -- a node by its place
-  node-at : (p i : ℕ) → p < n → getD st p 0 ≤ i → i + 1 < getD st (p + 1) 0 → Node i
+  pub node-at : (p i : ℕ) → p < n → getD st p 0 ≤ i → i + 1 < getD st (p + 1) 0 → Node i
   node-at p i h f t =
       let j = step-place es st n l p i h f t in
       (j .0, j .1, ap stepOf (j .2) ∙ use-step es st n l _ (step-use es st n l p i h f t))
@@ -307,7 +307,7 @@ module _ (es st : List ℕ) (n : ℕ) (l : Loaded es st n) where
           by-cases (decLt (a + w .0 + 1) b) (λ lt. at (a + w .0) (low a (w .0)) lt q) (λ ge. at a (le-refl a) (first a b (ring-long es st n l p h)) (sym (closing p h) ∙ (ap (λ (z : ℕ). getD es z 0) (sym (last a b (w .0) k ge)) ∙ q)))
 
   -- a polygon has one corner at a point
-  one-corner : (e f : ℕ) → Node e → Node f → getD es e 0 ≡ getD es f 0 → owner st n e ≡ owner st n f → e ≡ f
+  pub one-corner : (e f : ℕ) → Node e → Node f → getD es e 0 ≡ getD es f 0 → owner st n e ≡ owner st n f → e ≡ f
   one-corner e f x y q o = by-cases (decLt e f) (λ lt. absurd (twice e f x y lt q o)) (λ ge. by-cases (decLt f e) (λ lt. absurd (twice f e y x lt (sym q) (sym o))) (λ le. omega arith))
     where
       twice : (e f : ℕ) → Node e → Node f → e < f → getD es e 0 ≡ getD es f 0 → owner st n e ≡ owner st n f → ⊥
@@ -347,7 +347,7 @@ module _ (es st : List ℕ) (n : ℕ) (l : Loaded es st n) where
           ends = rw (z .point i lt) (z .ends (keyOf (getD table i 0)));
           mine = rw (z .poly i lt) (place-edge es st n l i lt);
           theirs = rw (z .poly (i + 1) h, e) (place-edge es st n l (i + 1) h);
-        })
+        }),
       )
         where
           lt : i < length table
@@ -370,8 +370,7 @@ module _ (es st : List ℕ) (n : ℕ) (l : Loaded es st n) where
       zone-meets : (by v p q : ℕ) → pnt by ≡ v → In by (edgesOf (getD rs p [])) → In by (edgesOf (getD rs q [])) → (e : ℕ) × (f : ℕ) × Node e × Node f × (getD es e 0 ≡ v) × (owner st n e ≡ p) × (getD es f 0 ≡ v) × (owner st n f ≡ q) × Reach (λ x. x ≡ e) (Joined table g) f
       zone-meets by v p q w mine theirs =
           let a = edge-place es st n l by p mine in
-          let b = edge-place es st n l by q theirs in
-          (
+          let b = edge-place es st n l by q theirs in (
             g (getD table (a .0) 0),
             g (getD table (b .0) 0),
             z .node (a .0) (a .1),
@@ -380,7 +379,7 @@ module _ (es st : List ℕ) (n : ℕ) (l : Loaded es st n) where
             z .poly (a .0) (a .1) ∙ a .3,
             z .point (b .0) (b .1) ∙ (ap pnt (b .2) ∙ w),
             z .poly (b .0) (b .1) ∙ b .3,
-            joined-key es st n l two g (a .0) (b .0) (a .1) (b .1) (a .2 ∙ sym (b .2)) (start refl)
+            joined-key es st n l two g (a .0) (b .0) (a .1) (b .1) (a .2 ∙ sym (b .2)) (start refl),
           )
 
     corners : Corners Node (λ e. getD es e 0) (owner st n) (Joins 1 2 table) (Around rs)

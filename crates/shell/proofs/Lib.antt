@@ -10,3 +10,5 @@ pub mod Pairs
 pub mod Across
 pub mod Fans
 pub mod Corner
+pub mod Ways
+pub mod Rows

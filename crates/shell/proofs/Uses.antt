@@ -16,6 +16,7 @@ use Rattle.whole.specs.Lists.{steps, stepsFrom, tab}
 use Rattle.shell.specs.Edges.{edge, way, edgesOf, waysOf, all}
 use Rattle.shell.specs.Closure.{In}
 use Rattle.shell.specs.Tallies.{in-left, in-right, in-either}
+use Rattle.shell.specs.Tabs.{length-tab, getD-tab}
 use Rattle.shell.specs.Held.{ringAt, rings, Starts, Entries}
 use Rattle.shell.specs.Table.{keyOf, polyOf, stepOf, nextOf, dirOf, wordOf, stepWord, nextAt, span, ringWords, wordsTo}
 use Rattle.shell.specs.Kept.{Sound, Loaded}
@@ -54,27 +55,6 @@ module _ {A : Type 0} where
   unfolding span
   span-same f g i zero h = refl
   span-same f g i (suc n) h = ap₂ (λ (x : A) (l : List A). x ∷ l) (h i (le-refl i) (omega arith)) (span-same f g (i + 1) n (λ k a b. h k (omega arith) (omega arith)))
-
-  -- a table of a function
-  pub length-tab : (f : ℕ → A) (n : ℕ) → length (tab f n) ≡ n
-  unfolding tab
-  length-tab f zero = refl
-  length-tab f (suc n) = length-append (tab f n) (f n ∷ []) ∙ omega (arith, length-tab f n)
-
-  pub getD-tab : (f : ℕ → A) (n p : ℕ) (d : A) → p < n → getD (tab f n) p d ≡ f p
-  unfolding tab
-  getD-tab f zero p d h = absurd (not-suc-le-zero h)
-  getD-tab f (suc n) p d h =
-      by-cases
-      (decLt p n)
-      (λ lt. List·getD-append (tab f n) (f n ∷ []) d p (rw (length-tab f n) lt) ∙ getD-tab f n p d lt)
-      (λ ge. subst (λ (k : ℕ). getD (tab f n ++ (f n ∷ [])) k d ≡ f p) (last ge) (getD-append-add (tab f n) (f n ∷ []) 0 d ∙ ap f (same ge)))
-    where
-      same : (p < n → ⊥) → n ≡ p
-      same ge = omega arith
-
-      last : (p < n → ⊥) → length (tab f n) + 0 ≡ p
-      last ge = omega (arith, length-tab f n)
 
 pub in-span : (f : ℕ → ℕ) (x i n : ℕ) → In x (span f i n) → (k : ℕ) × (i ≤ k) × (k < i + n) × (x ≡ f k)
 unfolding span

@@ -40,6 +40,14 @@ is-none {P} {o} i h = go o refl
     go none e = e
     go (some y) e = absurd (h y (i .found y e .holds))
 
+-- two that name the least of the same numbers are the same
+pub is-same : {P Q : ℕ → Type 0} {o o′ : Option ℕ} → Is P o → Is Q o′ → ((x : ℕ) → P x → Q x) → ((x : ℕ) → Q x → P x) → o ≡ o′
+is-same {P} {Q} {o} {o′} i j f g = go o′ refl
+  where
+    go : (b : Option ℕ) → o′ ≡ b → o ≡ o′
+    go none e = is-none i (λ x p. j .missing e x (f x p)) ∙ sym e
+    go (some x) e = let m = j .found x e in is-some i (record { holds = g x (m .holds); first = λ y p. m .first y (f y p) }) ∙ sym e
+
 -- `least` is the least
 pub least-is : (l : List ℕ) → Is (λ x. In x l) (least l)
 unfolding least

@@ -1,6 +1,6 @@
 -- What is kept of the shape from end of load on: the table, a flag for each polygon that stands turned, and the verdict of all
 -- checks but 0A, which alone changes by turns.
-use Prim.Native.Nat.{ℕ, zero, suc, _+_, _-_, _≤_, _<_}
+use Prim.Native.Nat.{ℕ, zero, suc, _+_, _-_, _%_, _≤_, _<_}
 use mathlib.Core.Path.{_≡_}
 use mathlib.Core.Bool.{Bool, true, false}
 use mathlib.Core.List.{List, [], _∷_, _++_, reverse}
@@ -13,7 +13,7 @@ use Rattle.shell.specs.declared.Shape.the-variants.{Whole, Few, Once, Of
 use Rattle.shell.specs.Edges.{usedOnce, usedOften}
 use Rattle.shell.specs.Shell.{byEnds, notReached, notLinked}
 use Rattle.shell.specs.Held.{ringAt, rings, Starts, Entries}
-use Rattle.shell.specs.Table.{wordsTo, tableOf, ascending}
+use Rattle.shell.specs.Table.{keyOf, polyOf, dirOf, wordsTo, tableOf, ascending}
 
 -- a ring that passes checks 01, 02 and 03
 pub record Sound (ring : List ℕ) : Type 0 where
@@ -38,6 +38,43 @@ fixedShape rs =
     Option·map Apart (notReached rs) ∷
     Option·map Unlinked (notLinked rs) ∷
     [])
+
+-- checks 0B and 0C alone
+unfoldable pub hanging : List (List ℕ) → Shape
+hanging rs = first Whole (Option·map Apart (notReached rs) ∷ Option·map Unlinked (notLinked rs) ∷ [])
+
+-- checks 07, 08 and 09 come before 0A, and 0B and 0C after it
+unfoldable pub early : Shape → Bool
+early (Few n) = true
+early (Once a b) = true
+early (Often a b) = true
+early (Alike a b) = false
+early (Apart p) = false
+early (Unlinked v) = false
+early Whole = false
+
+-- the verdict with 0A asked too, of which o is the least edge that fails it
+unfoldable pub orAlike : Shape → Option ℕ → Shape
+orAlike fixed none = fixed
+orAlike fixed (some e) = byEnds Alike e
+
+unfoldable pub nowOf : Shape → Option ℕ → Shape
+nowOf fixed o = elim (early fixed) [ true ↦ fixed | false ↦ orAlike fixed o ]
+
+-- the direction in which a word's step is gone now: as loaded, or the other way where its polygon stands turned
+abbrev pub headingOf : List ℕ → ℕ → ℕ
+headingOf turned w = (dirOf w + getD turned (polyOf w) 0) % 2
+
+-- the edge of the first two words, two by two, whose steps are gone in one direction
+unfoldable pub alikeIn : List ℕ → List ℕ → Option ℕ
+alikeIn turned [] = none
+alikeIn turned (w ∷ []) = none
+alikeIn turned (w ∷ v ∷ l) = elim (eqb (headingOf turned w) (headingOf turned v)) [ true ↦ some (keyOf w) | false ↦ alikeIn turned l ]
+
+-- the words of loaded rings, in order
+pub record Table (entries starts : List ℕ) (n : ℕ) (words : List ℕ) : Type 0 where
+  pub loaded : Loaded entries starts n
+  pub words-are : words ≡ ascending (wordsTo entries starts n)
 
 -- what end of load leaves: the table, the number of its words, and the verdict that turns do not change
 pub record Built (entries starts : List ℕ) (n : ℕ) (room table : List ℕ) (count : ℕ) (fixed : Shape) : Type 0 where

@@ -38,6 +38,18 @@ module _ {A : Type 0} where
   unfolding one
   one-no t x e = rw (e, one)
 
+  one-le : (t : A → Bool) (x : A) → one t x ≤ 1
+  unfolding one
+  one-le t x = go (t x)
+    where
+      go : (b : Bool) → elim b as (λ _. ℕ) [ true ↦ 1 | false ↦ 0 ] ≤ 1
+      go true = le-refl 1
+      go false = zero-le
+
+  pub tally-le : (t : A → Bool) (l : List A) → tally t l ≤ length l
+  tally-le t [] = omega (arith, tally-nil t)
+  tally-le t (x ∷ l) = omega (arith, tally-cons t x l, one-le t x, tally-le t l)
+
   pub tally-append : (t : A → Bool) (a b : List A) → tally t (a ++ b) ≡ tally t a + tally t b
   tally-append t [] b = omega (arith, tally-nil t)
   tally-append t (x ∷ a) b = rw (tally-cons t x (a ++ b), tally-cons t x a) (omega (arith, tally-append t a b))
