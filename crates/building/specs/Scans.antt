@@ -31,7 +31,7 @@ pub record Counted (l : List ℕ) (n i count : ℕ) : Type 0 where
   pub few : count ≤ i
   pub is : count + tally (ltb 0) (drop i (take n l)) ≡ tally (ltb 0) (take n l)
 
-above : (x : ℕ) → (x ≡ 0 → ⊥) → ltb 0 x ≡ true
+pub above : (x : ℕ) → (x ≡ 0 → ⊥) → ltb 0 x ≡ true
 above x e = lt-ltb 0 x (pos-of x e)
   where
     pos-of : (x : ℕ) → (x ≡ 0 → ⊥) → 0 < x

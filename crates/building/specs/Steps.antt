@@ -4,14 +4,16 @@ use native.Mathlib.Omega.{arith}
 use mathlib.Core.Path.{_≡_, refl, sym, ap, _∙_}
 use mathlib.Core.Bool.{Bool, true, false, cond}
 use mathlib.Core.List.{List}
-use lib.ListN.{length, getD, set}
+use borrow.Author.Tests.{ltb-true, ltb-false}
+use lib.Dec.{ltb}
+use lib.ListN.{length, getD, set, List·getD-eq-default}
 use lib.Seq.{set-getD}
 use lib.IntN.{ℤ, pos}
 use Rattle.whole.specs.Lists.{lists}
 use Rattle.polygon.specs.Ring.{finding, findingNumber, part}
 use Rattle.polygon.specs.Held.{pointsOf}
 use Rattle.shell.specs.Held.{ringAt}
-use Rattle.building.specs.Lists.{upto, length-upto, upto-more}
+use Rattle.building.specs.Lists.{cases, upto, length-upto, upto-more, upto-done, upto-rest}
 
 -- the number of ring p's finding, and its part
 abbrev pub numberAt : ℕ → List ℤ → List ℕ → List ℕ → ℕ → ℕ
@@ -82,6 +84,28 @@ module _ (tolerance : ℕ) (points : List ℤ) (entries starts : List ℕ) (numb
             found = t .found ∙ ap (λ (l : List ℕ). set l m (refind tolerance points entries starts n m (getD l m 0))) (lo .found) ∙ upto-more (refind tolerance points entries starts n) 0 findings m;
             summed = t .summed ∙ ap (λ (l : List ℤ). set l m (repart points entries starts n m (getD l m (pos 0)))) (lo .summed) ∙ upto-more (repart points entries starts n) (pos 0) parts m;
           }
+
+-- ---- the first m are 0
+abbrev pub zeroed : List ℕ → ℕ → List ℕ
+zeroed l m = upto (λ p old. 0) 0 l m
+
+module _ (l : List ℕ) where
+  pub zeroed-none : l ≡ zeroed l 0
+  unfolding upto
+  zeroed-none = refl
+
+  pub zeroed-more : (m : ℕ) {l' : List ℕ} → l' ≡ zeroed l m → set l' m 0 ≡ zeroed l (m + 1)
+  zeroed-more m e = ap (λ (k : List ℕ). set k m 0) e ∙ upto-more (λ p old. 0) 0 l m
+
+  pub zeroed-length : (m : ℕ) {l' : List ℕ} → l' ≡ zeroed l m → length l' ≡ length l
+  zeroed-length m e = ap length e ∙ length-upto (λ p old. 0) 0 l m
+
+  -- all are 0
+  pub zeroed-all : length l ≡ 256 → (p : ℕ) → getD (zeroed l 256) p 0 ≡ 0
+  zeroed-all h p =
+      cases (ltb p 256)
+      (λ t. upto-done (λ p old. 0) 0 l 256 p (ltb-true p 256 t) (omega arith))
+      (λ t. upto-rest (λ p old. 0) 0 l 256 p (ltb-false p 256 t) ∙ List·getD-eq-default l 0 (omega (arith, ltb-false p 256 t)))
 
 -- ---- end of load: the first m are checked
 module _ (tolerance : ℕ) (points : List ℤ) (entries starts : List ℕ) where

@@ -22,7 +22,7 @@ use Rattle.polygon.specs.Held.{pointsOf, Coords, Known}
 use Rattle.polygon.specs.Sizes.{part-small}
 use Rattle.shell.specs.declared.Shape.{Shape}
 use Rattle.shell.specs.Held.{ringAt, rings}
-use Rattle.shell.specs.Kept.{Edged, turn, turnedRings}
+use Rattle.shell.specs.EdgedLaws.{edged-turned}
 use Rattle.building.specs.declared.Scalars.{Scalars}
 use Rattle.building.specs.Tables.{Building, turned}
 use Rattle.building.specs.Lists.{cases, tab-set, getD-tab, length-tab}
@@ -66,50 +66,11 @@ module _ {entries starts : List ℕ} {p : ℕ} (r : Ring entries starts p) {entr
   own-before points z f k = toZ-ofZ f ∙ k ∙ ap (part (pointsOf points)) (sym (reverse-reverse (ringAt entries starts p)) ∙ ap reverse (sym own-turned))
 
 -- ---- the flag of a turned ring
-turn-turn : (k : ℕ) (ring : List ℕ) → k ≤ 1 → turn (1 - k) ring ≡ reverse (turn k ring)
-unfolding turn
-turn-turn zero ring h = refl
-turn-turn (suc zero) ring h = sym (reverse-reverse ring)
-turn-turn (suc (suc k)) ring h = absurd (omega arith)
-
 abbrev pub flipped : List ℕ → ℕ → List ℕ
 flipped turned p = set turned p (1 - getD turned p 0)
 
 pub flipped-flags : (turned : List ℕ) (p : ℕ) → ((q : ℕ) → getD turned q 0 ≤ 1) → (q : ℕ) → getD (flipped turned p) q 0 ≤ 1
 flipped-flags turned p h q = all-set (λ (v : ℕ). v ≤ 1) 0 turned (suc q) p (1 - getD turned p 0) (λ i g. h i) (omega arith) q (omega arith)
-
-module _ {rs : List (List ℕ)} {table : List ℕ} {count : ℕ} {turned : List ℕ} {fixed : Shape} (ed : Edged rs table count turned fixed) (p : ℕ) (size : length turned ≡ 256) (few : p < 256) where
-  count-is : length rs ≡ ed .polygons
-  unfolding turnedRings
-  count-is = ap length (ed .present) ∙ length-tab (λ q. turn (getD turned q 0) (ringAt (ed .entries) (ed .starts) q)) (ed .polygons)
-
-  abbrev loadedRing : ℕ → List ℕ
-  loadedRing q = ringAt (ed .entries) (ed .starts) q
-
-  pub edged-turned : p < length rs → Edged (at p reverse rs) table count (flipped turned p) fixed
-  unfolding turnedRings
-  edged-turned h =
-      let n = ed .polygons in
-      let b : p < n = rw count-is at h in
-      let own : getD (flipped turned p) p 0 ≡ 1 - getD turned p 0 = getD-set-same turned p (1 - getD turned p 0) 0 (omega arith) in
-      let f : ℕ → List ℕ = λ q. turn (getD turned q 0) (loadedRing q) in
-      let g : ℕ → List ℕ = λ q. turn (getD (flipped turned p) q 0) (loadedRing q) in
-      let z : g p ≡ reverse (f p) = ap (λ (k : ℕ). turn k (loadedRing p)) own ∙ turn-turn (getD turned p 0) (loadedRing p) (ed .flags p) in
-      let all : tab g n ≡ at p reverse (tab f n) =
-      tab-set f g n p b (λ q u v. ap (λ (k : ℕ). turn k (loadedRing q)) (getD-set-other turned p q (1 - getD turned p 0) 0 v))
-      ∙ ap (λ (r : List ℕ). set (tab f n) p r) (z ∙ ap reverse (sym (getD-tab f n p [] b)))
-      ∙ sym (at-is-set reverse (tab f n) p [] (rw length-tab b)) in
-      record {
-        entries = ed .entries;
-        starts = ed .starts;
-        polygons = n;
-        loaded = ed .loaded;
-        flags = flipped-flags turned p (ed .flags);
-        present = ap (at p reverse) (ed .present) ∙ sym all;
-        words = ed .words;
-        room = ed .room;
-        fixed-is = ed .fixed-is;
-      }
 
 -- ---- all that is kept
 module _ {points : List ℤ} {entries starts : List ℕ} {s : Scalars} (ld : Loaded points entries starts s) (p : ℕ) (h : p < s .polygons) where
@@ -155,8 +116,7 @@ module _ (a : Arrays) (s : Scalars) (hd : Held a s) (number p : ℕ) (h : p < s 
       let kp = hd .kept in
       let few : p < 256 = omega (arith, ld .begins .few) in
       let lt = turned-loaded ld p h in
-      let n : length (rings (a .entries) (a .starts) (s .polygons)) ≡ s .polygons = rings-length (a .entries) (a .starts) (s .polygons) in
-      let b : p < length (rings (a .entries) (a .starts) (s .polygons)) = omega arith in
+      let b : p < length (a .turned) = omega (arith, kp .turned-size) in
       rw (e₁, e₂, e₃, e₄)
       (record {
         held = record {
@@ -168,7 +128,7 @@ module _ (a : Arrays) (s : Scalars) (hd : Held a s) (number p : ℕ) (h : p < s 
             table-size = kp .table-size;
             turned-size = length-set (a .turned) p (1 - getD (a .turned) p 0) ∙ kp .turned-size;
             flags = flipped-flags (a .turned) p (kp .flags);
-            shaped = ⊎-elim (λ br. inl (turned-broken ld p h br)) (λ ed. inr (rw (turned-rings ld p h) (edged-turned ed p (kp .turned-size) few b))) (kp .shaped);
+            shaped = ⊎-elim (λ br. inl (turned-broken ld p h br)) (λ ed. inr (rw (turned-rings ld p h) (edged-turned (rings (a .entries) (a .starts) (s .polygons)) (a .table) (s .edges) (a .turned) (s .fixed) p b ed))) (kp .shaped);
           };
         };
         is = rw (turned-rings ld p h, take-set-lt (s .polygons) (a .stamps) p number h);

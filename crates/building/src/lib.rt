@@ -17,9 +17,9 @@ ghost use Rattle.shell.specs.Held.{ringAt};
 ghost use Rattle.shell.specs.Shell.{shapeNumber, shapeA, shapeB};
 ghost use Rattle.building.specs.Tables.{isFar, standsElse};
 ghost use Rattle.building.specs.Tables as Tables;
-ghost use Rattle.building.specs.Report.{checkNumber, elementA, elementB};
+ghost use Rattle.building.specs.Report.{checkNumber, elementA, elementB, verdict};
 ghost use Rattle.building.specs.Lists.{cut};
-ghost use Rattle.building.specs.Holds.{point3, placed, arrays, heldBuilding, Held, Did};
+ghost use Rattle.building.specs.Holds.{point3, placed, arrays, heldTables, heldBuilding, Loaded, Kept, Held, Did};
 ghost use Rattle.building.specs.Rings.{Ring, turnedEntries};
 ghost use Rattle.building.specs.Places.{elseAt};
 ghost use Rattle.building.specs.Scans.{lowest, Summable};
@@ -315,6 +315,39 @@ fn shape_b(s: Shape) -> usize
         Shape::Apart(_) => 0,
         Shape::Unlinked(_) => 0,
     }
+}
+
+// The first check that fails, from what is kept: the lowest finding, else the check of the whole, else the six-volume's sign.
+pub fn verdict_of(
+    points: &[i64; 1536],
+    entries: &[u16; 1024],
+    starts: &[u16; 257],
+    findings: &[u8; 256],
+    parts: &[i64; 256],
+    table: &[u64; 1024],
+    turned: &[u8; 256],
+    s: Scalars,
+) -> Verdict
+    requires { ⌜ Loaded (now points) (now entries) (now starts) s ⌝ }
+    requires { ⌜ Kept (now points) (now entries) (now starts) (now findings) (now parts) (now table) (now turned) s ⌝ }
+    ensures { λ r. ⌜ r ≡ verdict (heldTables (now (points .entry)) (now (entries .entry)) (now (starts .entry)) s) ⌝ }
+{
+    let n = s.polygons;
+    let low = lowest_of(findings, n);
+    if low < n {
+        let found = finding_from(findings[low]);
+        return Verdict::Faulty(low, found);
+    }
+    let edges = s.edges;
+    let fixed = s.fixed;
+    let shape = shell::shape_now(table, edges, turned, fixed);
+    if shape_number(shape) != 0 {
+        return Verdict::Unsound(shape);
+    }
+    if six_volume(parts, n) <= 0 {
+        return Verdict::Inward;
+    }
+    Verdict::Accepted
 }
 
 // The number of the check that a verdict names.
