@@ -4,3 +4,7 @@ mod Numbers
 mod Sums
 mod Sizing
 mod Even
+mod Stretches
+mod Pairs
+mod Columns
+mod Order

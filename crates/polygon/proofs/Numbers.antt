@@ -9,7 +9,8 @@ use mir.Val.{hbits, toZ, ofZ}
 use Rattle.whole.specs.Size.{Small, small-zero, small-back, back-small}
 use Rattle.whole.specs.Mach.{Leaf, whole}
 use Rattle.polygon.specs.Space.{Point}
-use Rattle.polygon.specs.Leaves.{at, Near, rowOf, Rows}
+use Rattle.polygon.specs.Plane.{Spot, Segment, overlap}
+use Rattle.polygon.specs.Leaves.{at, Near, rowOf, Rows, spot, Close, Ends}
 use Rattle.polygon.specs.Sizes.{near-same}
 
 -- a number, read back from its bits
@@ -52,3 +53,17 @@ returned {p} {q} e h ls =
   where
     got : (y z : ℤ) → y ≡ z → Small 100000 z → Leaf
     got y z e s = record { seen = seen y; is = z; size = 100000; same = small-back w64 tt (subst (λ (x : ℤ). Small 100000 x) (sym e) s) ∙ e; small = s }
+
+-- ---- in the plane that is left
+pub spot-back : (p : Spot) → Close p → spot (seen (p .u)) (seen (p .v)) ≡ p
+spot-back p h = λ i. spot (small-back w64 tt (h .on-u) i) (small-back w64 tt (h .on-v) i)
+
+pub close-back : (p : Spot) → Close p → Close (spot (seen (p .u)) (seen (p .v)))
+close-back p h = record { on-u = back-small w64 tt (h .on-u); on-v = back-small w64 tt (h .on-v) }
+
+-- the four numbers of a segment
+abbrev pub ends : {e : Segment} → Ends e → List Leaf → List Leaf
+ends h ls = whole w64 tt (h .from .on-u) ∷ whole w64 tt (h .from .on-v) ∷ whole w64 tt (h .to .on-u) ∷ whole w64 tt (h .to .on-v) ∷ ls
+
+pub overlap-back : {a b c d : ℤ} → Small 100000 a → Small 100000 b → Small 100000 c → Small 100000 d → overlap (seen a) (seen b) (seen c) (seen d) ≡ overlap a b c d
+overlap-back p q r s = λ i. overlap (small-back w64 tt p i) (small-back w64 tt q i) (small-back w64 tt r i) (small-back w64 tt s i)

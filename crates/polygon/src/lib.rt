@@ -1,18 +1,18 @@
 // One ring: its finding, the first of checks 01 to 06 that fails, and its part of the six-volume.
 ghost use mathlib.Core.Path.{_≡_};
 ghost use mathlib.Core.Bool.{not};
-ghost use Prim.Native.Nat.{ℕ, _+_, _<_, _≤_};
+ghost use Prim.Native.Nat.{ℕ, _+_, _*_, _<_, _≤_};
 ghost use lib.Dec.{eqb};
 ghost use lib.ListN.{length, getD, drop};
-ghost use lib.IntN.{pos, natAbs};
+ghost use lib.IntN.{pos, natAbs, _+ℤ_, _-ℤ_, _*ℤ_};
 ghost use lib.Signed.{ltZ};
-ghost use Rattle.whole.specs.Lists.{lists, anyTwo};
+ghost use Rattle.whole.specs.Lists.{lists, any, anyTwo, steps, numbered, tab};
 ghost use Rattle.whole.specs.Size.{Small};
 ghost use Rattle.polygon.specs.Space.{determinant, relativeTo, cross, dot, places};
-ghost use Rattle.polygon.specs.Plane.{largestAxis};
-ghost use Rattle.polygon.specs.Ring.{isUnclosed, isRepeated, normal, isZero, size, isUneven, finding, part};
+ghost use Rattle.polygon.specs.Plane.{largestAxis, side, sameSign, overlap, share, shareMore, turnOff, ahead};
+ghost use Rattle.polygon.specs.Ring.{isUnclosed, isRepeated, normal, isZero, forbidden, edgesIn, isCrossed, size, isUneven, finding, part};
 ghost use Rattle.polygon.specs.Held.{pointsOf, placeAt, Coords, Known};
-ghost use Rattle.polygon.specs.Leaves.{asPoint, rowOf, Rows, Nine, Near, at, least, most};
+ghost use Rattle.polygon.specs.Leaves.{asPoint, rowOf, Rows, Nine, Near, at, least, most, spot, asSegment, Close, Ends, edgeAt, Spread, Filled, seenSpots};
 
 // A polygon's finding; `Sound` where no check fails. `findingNumber` gives document 01's number.
 pub enum Finding {
@@ -37,6 +37,14 @@ struct Place {
     x: i64,
     y: i64,
     z: i64,
+}
+
+// An edge in the plane that is left, from a to b.
+struct Edge {
+    au: i64,
+    av: i64,
+    bu: i64,
+    bv: i64,
 }
 
 // Whether the ring lists point n.
@@ -343,4 +351,270 @@ fn is_uneven(points: &[i64; 1536], ring: &[u16], tolerance: u16, n: Place) -> bo
         i += 1;
     }
     false
+}
+
+// Which side of the line from a to b the place c is on.
+fn side(au: i64, av: i64, bu: i64, bv: i64, cu: i64, cv: i64) -> i64
+    requires { ⌜ (Close (spot au av)) × (Close (spot bu bv)) × (Close (spot cu cv)) ⌝ }
+    ensures { λ r. ⌜ r ≡ side (spot au av) (spot bu bv) (spot cu cv) ⌝ }
+{
+    (bu - au) * (cv - av) - (bv - av) * (cu - au)
+}
+
+// Whether f lies wholly on one side of e's line.
+fn one_side(e: Edge, f: Edge) -> bool
+    requires { ⌜ (Ends (asSegment e)) × (Ends (asSegment f)) ⌝ }
+    ensures { λ r. ⌜ r ≡ sameSign (side (asSegment e .0) (asSegment e .1) (asSegment f .0)) (side (asSegment e .0) (asSegment e .1) (asSegment f .1)) ⌝ }
+{
+    let au = e.au;
+    let av = e.av;
+    let bu = e.bu;
+    let bv = e.bv;
+    let cu = f.au;
+    let cv = f.av;
+    let du = f.bu;
+    let dv = f.bv;
+    let p = side(au, av, bu, bv, cu, cv);
+    let q = side(au, av, bu, bv, du, dv);
+    ((0 < p) & (0 < q)) | ((p < 0) & (q < 0))
+}
+
+// Whether the stretches from p to q and from c to d have no number in common.
+fn apart(p: i64, q: i64, c: i64, d: i64) -> bool
+    ensures { λ r. ⌜ r ≡ not (overlap p q c d) ⌝ }
+{
+    let lo = lower(p, q);
+    let hi = upper(p, q);
+    ((hi < c) & (hi < d)) | ((c < lo) & (d < lo))
+}
+
+// Whether two edges share a point; most are told apart by their boxes, before anything is multiplied.
+fn share(e: Edge, f: Edge) -> bool
+    requires { ⌜ (Ends (asSegment e)) × (Ends (asSegment f)) ⌝ }
+    ensures { λ r. ⌜ r ≡ share (asSegment e) (asSegment f) ⌝ }
+{
+    let au = e.au;
+    let av = e.av;
+    let bu = e.bu;
+    let bv = e.bv;
+    let cu = f.au;
+    let cv = f.av;
+    let du = f.bu;
+    let dv = f.bv;
+    let beside = apart(au, bu, cu, du);
+    let above = apart(av, bv, cv, dv);
+    if beside | above {
+        return false;
+    }
+    if one_side(e, f) {
+        return false;
+    }
+    !one_side(f, e)
+}
+
+// How far the way (r, s) turns off the way (p, q), and how far it goes that way.
+fn turn_off(p: i64, q: i64, r: i64, s: i64) -> i64
+    requires { ⌜ (Small 200000 p) × (Small 200000 q) × (Small 200000 r) × (Small 200000 s) ⌝ }
+    ensures { λ z. ⌜ z ≡ p *ℤ s -ℤ q *ℤ r ⌝ }
+{
+    p * s - q * r
+}
+
+fn ahead(p: i64, q: i64, r: i64, s: i64) -> i64
+    requires { ⌜ (Small 200000 p) × (Small 200000 q) × (Small 200000 r) × (Small 200000 s) ⌝ }
+    ensures { λ z. ⌜ z ≡ p *ℤ r +ℤ q *ℤ s ⌝ }
+{
+    p * r + q * s
+}
+
+// Whether f, which begins where e ends, shares more with it than that end.
+fn share_more(e: Edge, f: Edge) -> bool
+    requires { ⌜ (Ends (asSegment e)) × (Ends (asSegment f)) ⌝ }
+    ensures { λ r. ⌜ r ≡ shareMore (asSegment e) (asSegment f) ⌝ }
+{
+    let au = e.au;
+    let av = e.av;
+    let bu = e.bu;
+    let bv = e.bv;
+    let cu = f.au;
+    let cv = f.av;
+    let du = f.bu;
+    let dv = f.bv;
+    let p = bu - au;
+    let q = bv - av;
+    let r = du - cu;
+    let s = dv - cv;
+    let t = turn_off(p, q, r, s);
+    let a = ahead(p, q, r, s);
+    (t == 0) & (a < 0)
+}
+
+// Edge i of those between places that follow one another.
+fn edge_at(us: &[i64], vs: &[i64], i: usize) -> Edge
+    requires { ⌜ (i + 1 < length (now us)) × (i + 1 < length (now vs)) ⌝ }
+    ensures { λ r. ⌜ asSegment r ≡ edgeAt (now (us .entry)) (now (vs .entry)) i ⌝ }
+{
+    let j = i + 1;
+    let au = us[i];
+    let av = vs[i];
+    let bu = us[j];
+    let bv = vs[j];
+    Edge { au, av, bu, bv }
+}
+
+// Whether edges i and j of m, i before j, have in common what they may not.
+fn clash(us: &[i64], vs: &[i64], m: usize, i: usize, j: usize) -> bool
+    requires { ⌜ Spread (now us) (now vs) m ⌝ }
+    requires { ⌜ (i < j) × (j < m) ⌝ }
+    ensures { λ r. ⌜ r ≡ forbidden m (i, edgeAt (now (us .entry)) (now (vs .entry)) i) (j, edgeAt (now (us .entry)) (now (vs .entry)) j) ⌝ }
+{
+    let e = edge_at(us, vs, i);
+    let f = edge_at(us, vs, j);
+    if i + 1 == j {
+        return share_more(e, f);
+    }
+    if (i == 0) & (j + 1 == m) {
+        return share_more(f, e);
+    }
+    share(e, f)
+}
+
+// Whether edge i of m and a later one do.
+fn clashes(us: &[i64], vs: &[i64], m: usize, i: usize) -> bool
+    requires { ⌜ Spread (now us) (now vs) m ⌝ }
+    requires { ⌜ i < m ⌝ }
+    ensures { λ r. ⌜ r ≡ any (forbidden m (i, edgeAt (now (us .entry)) (now (vs .entry)) i)) (drop (i + 1) (numbered (tab (edgeAt (now (us .entry)) (now (vs .entry))) m))) ⌝ }
+{
+    let mut j = i + 1;
+    while j < m {
+        if clash(us, vs, m, i, j) {
+            return true;
+        }
+        j += 1;
+    }
+    false
+}
+
+// Whether some two of m edges do.
+fn crossings(us: &[i64], vs: &[i64], m: usize) -> bool
+    requires { ⌜ Spread (now us) (now vs) m ⌝ }
+    ensures { λ r. ⌜ r ≡ isCrossed (tab (edgeAt (now (us .entry)) (now (vs .entry))) m) ⌝ }
+{
+    let mut i: usize = 0;
+    while i < m {
+        if clashes(us, vs, m, i) {
+            return true;
+        }
+        i += 1;
+    }
+    false
+}
+
+// Coordinate k of point p.
+fn coordinate(points: &[i64; 1536], p: u16, k: usize) -> i64
+    requires { ⌜ Coords (now points) ⌝ }
+    requires { ⌜ (p < 512) × (k ≤ 2) ⌝ }
+    ensures { λ r. ⌜ r ≡ getD (now (points .entry)) (3 * p + k) (pos 0) ⌝ }
+{
+    let i = 3 * (p as usize) + k;
+    points[i]
+}
+
+// Coordinate k of the ring's entries, one after another, into lent room.
+fn fill(points: &[i64; 1536], ring: &[u16], k: usize, room: &mut [i64])
+    requires { ⌜ Coords (now points) ⌝ }
+    requires { ⌜ Known (now ring) ⌝ }
+    requires { ⌜ (k ≤ 2) × (length (now ring) ≤ length (now room)) ⌝ }
+    ensures { λ _. ⌜ Filled (now (points .entry)) (now (ring .entry)) k (length (now (room .entry))) (now (room .exit)) ⌝ }
+{
+    let mut i: usize = 0;
+    while i < ring.len() {
+        let x = coordinate(points, ring[i], k);
+        room[i] = x;
+        i += 1;
+    }
+}
+
+// 05 of a ring that fits small room, in the plane of coordinates j and k: most rings are such, and large room costs more to clear.
+fn crossed_few(points: &[i64; 1536], ring: &[u16], j: usize, k: usize) -> bool
+    requires { ⌜ Coords (now points) ⌝ }
+    requires { ⌜ Known (now ring) ⌝ }
+    requires { ⌜ (1 ≤ length (now ring)) × (length (now ring) ≤ 8) × (j ≤ 2) × (k ≤ 2) ⌝ }
+    ensures { λ r. ⌜ r ≡ isCrossed (steps (seenSpots (now (points .entry)) (now (ring .entry)) j k)) ⌝ }
+{
+    let mut us: [i64; 8] = [0; 8];
+    let mut vs: [i64; 8] = [0; 8];
+    fill(points, ring, j, &mut us);
+    fill(points, ring, k, &mut vs);
+    crossings(&us, &vs, ring.len() - 1)
+}
+
+// 05 of any ring, in the plane of coordinates j and k.
+fn crossed_many(points: &[i64; 1536], ring: &[u16], j: usize, k: usize) -> bool
+    requires { ⌜ Coords (now points) ⌝ }
+    requires { ⌜ Known (now ring) ⌝ }
+    requires { ⌜ (1 ≤ length (now ring)) × (length (now ring) ≤ 128) × (j ≤ 2) × (k ≤ 2) ⌝ }
+    ensures { λ r. ⌜ r ≡ isCrossed (steps (seenSpots (now (points .entry)) (now (ring .entry)) j k)) ⌝ }
+{
+    let mut us: [i64; 128] = [0; 128];
+    let mut vs: [i64; 128] = [0; 128];
+    fill(points, ring, j, &mut us);
+    fill(points, ring, k, &mut vs);
+    crossings(&us, &vs, ring.len() - 1)
+}
+
+// 05 in the plane of coordinates j and k.
+fn crossed_in(points: &[i64; 1536], ring: &[u16], j: usize, k: usize) -> bool
+    requires { ⌜ Coords (now points) ⌝ }
+    requires { ⌜ Known (now ring) ⌝ }
+    requires { ⌜ (1 ≤ length (now ring)) × (j ≤ 2) × (k ≤ 2) ⌝ }
+    ensures { λ r. ⌜ r ≡ isCrossed (steps (seenSpots (now (points .entry)) (now (ring .entry)) j k)) ⌝ }
+{
+    if ring.len() <= 8 {
+        return crossed_few(points, ring, j, k);
+    }
+    crossed_many(points, ring, j, k)
+}
+
+// 05 in the plane left by dropping an axis.
+fn is_crossed(points: &[i64; 1536], ring: &[u16], axis: Axis) -> bool
+    requires { ⌜ Coords (now points) ⌝ }
+    requires { ⌜ Known (now ring) ⌝ }
+    requires { ⌜ 1 ≤ length (now ring) ⌝ }
+    ensures { λ r. ⌜ r ≡ isCrossed (edgesIn axis (places (pointsOf (now (points .entry))) (now (ring .entry)))) ⌝ }
+{
+    match axis {
+        Axis::X => crossed_in(points, ring, 1, 2),
+        Axis::Y => crossed_in(points, ring, 2, 0),
+        Axis::Z => crossed_in(points, ring, 0, 1),
+    }
+}
+
+// "A polygon's finding is the first of checks 01 to 06 that fails."
+pub fn finding_of(points: &[i64; 1536], ring: &[u16], tolerance: u16) -> Finding
+    requires { ⌜ Coords (now points) ⌝ }
+    requires { ⌜ Known (now ring) ⌝ }
+    requires { ⌜ tolerance ≤ 1000 ⌝ }
+    ensures { λ r. ⌜ r ≡ finding tolerance (pointsOf (now (points .entry))) (now (ring .entry)) ⌝ }
+{
+    if ring.len() < 4 {
+        return Finding::Short;
+    }
+    if !is_closed(ring) {
+        return Finding::Unclosed;
+    }
+    if is_repeated(ring) {
+        return Finding::Repeated;
+    }
+    let n = normal(points, ring);
+    if is_zero(n) {
+        return Finding::NoNormal;
+    }
+    if is_crossed(points, ring, largest_axis(n)) {
+        return Finding::Crossed;
+    }
+    if is_uneven(points, ring, tolerance, n) {
+        return Finding::Uneven;
+    }
+    Finding::Sound
 }

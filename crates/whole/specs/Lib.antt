@@ -11,3 +11,4 @@ pub mod Tests
 pub mod Sum
 pub mod Search
 pub mod First
+pub mod Places

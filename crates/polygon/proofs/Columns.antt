@@ -1,0 +1,122 @@
+-- The numbers of a ring's places on one axis, copied one after another; and the edges between them.
+use Prim.Native.Nat.{ℕ, zero, suc, _+_, _*_, _-_, _≤_, _<_}
+use native.Mathlib.Omega.{arith}
+use native.Mathlib.Decide.{decLt}
+use mathlib.Core.Path.{_≡_, refl, sym, ap, ap₂, _∙_, subst}
+use mathlib.Core.List.{List, [], _∷_, map}
+use lib.ListN.{length, getD, set, length-set, length-map}
+use lib.Seq.{getD-set-same, getD-set-other, ext-getD}
+use lib.IntN.{ℤ, pos}
+use Rattle.whole.specs.Lists.{steps, tab}
+use Rattle.whole.specs.Places.{tab-length, tab-at, steps-length, steps-at, map-at}
+use Rattle.whole.specs.Size.{Small}
+use Rattle.polygon.specs.declared.Axis.{Axis}
+use Rattle.polygon.specs.declared.Axis.the-variants.{X, Y, Z}
+use Rattle.polygon.specs.Space.{Point, origin, places}
+use Rattle.polygon.specs.Plane.{Spot, Segment, dropAxis}
+use Rattle.polygon.specs.Ring.{edgesIn, isCrossed}
+use Rattle.polygon.specs.Held.{pointsOf, placeAt, Coords, Known}
+use Rattle.polygon.specs.Leaves.{spot, edgeAt, Spread, Filled, seenSpots}
+use Rattle.polygon.specs.Sizes.{point-at}
+
+-- ---- the copy: the first i are there
+pub record Filling (flat : List ℤ) (ring : List ℕ) (k n : ℕ) (room : List ℤ) (i : ℕ) : Type 0 where
+  pub upto : i ≤ length ring
+  pub all : length room ≡ n
+  pub each : (j : ℕ) → j < i → getD room j (pos 0) ≡ getD flat (3 * getD ring j 0 + k) (pos 0)
+
+pub filling-start : (flat : List ℤ) (ring : List ℕ) (k : ℕ) (room : List ℤ) → Filling flat ring k (length room) room 0
+filling-start flat ring k room = record { upto = omega arith; all = refl; each = λ j h. absurd (omega arith) }
+
+pub filling-more : {flat : List ℤ} {ring : List ℕ} {k n : ℕ} {room : List ℤ} {i : ℕ} → Filling flat ring k n room i → i < length ring → i < length room
+    → (x : ℤ) → x ≡ getD flat (3 * getD ring i 0 + k) (pos 0) → Filling flat ring k n (set room i x) (i + 1)
+filling-more {flat} {ring} {k} {n} {room} {i} f l h x e =
+    record {
+      upto = omega arith;
+      all = length-set room i x ∙ f .all;
+      each = λ j g. go j (decLt j i) g;
+    }
+  where
+    go : (j : ℕ) → Dec (j < i) → j < i + 1 → getD (set room i x) j (pos 0) ≡ getD flat (3 * getD ring j 0 + k) (pos 0)
+    go j (yes p) g = getD-set-other room i j x (pos 0) (λ z. omega arith) ∙ f .each j p
+    go j (no p) g =
+        let z : j ≡ i = omega arith in
+        ap (λ (m : ℕ). getD (set room i x) m (pos 0)) z ∙ getD-set-same room i x (pos 0) h ∙ e ∙ ap (λ (m : ℕ). getD flat (3 * getD ring m 0 + k) (pos 0)) (sym z)
+
+pub filling-end : {flat : List ℤ} {ring : List ℕ} {k n : ℕ} {room : List ℤ} {i : ℕ} → Filling flat ring k n room i → i ≡ length ring → Filled flat ring k n room
+filling-end f e = record { all = f .all; each = λ j h. f .each j (omega arith) }
+
+-- ---- what two copies show
+module _ {flat : List ℤ} {ring : List ℕ} {j k n : ℕ} {us vs : List ℤ} (h : Coords flat) (few : length ring ≤ n) (some : 1 ≤ length ring) (p : Filled flat ring j n us) (q : Filled flat ring k n vs) where
+  pub spread-is : Spread us vs (length ring - 1)
+  spread-is =
+      record {
+        room-u = omega (arith, p .all);
+        room-v = omega (arith, q .all);
+        close-u = λ i l. subst (λ (z : ℤ). Small 100000 z) (sym (p .each i (omega arith))) (h .small (3 * getD ring i 0 + j));
+        close-v = λ i l. subst (λ (z : ℤ). Small 100000 z) (sym (q .each i (omega arith))) (h .small (3 * getD ring i 0 + k));
+      }
+
+  spots : List Spot
+  spots = seenSpots flat ring j k
+
+  nowhere : Spot
+  nowhere = spot (pos 0) (pos 0)
+
+  spots-length : length spots ≡ length ring
+  unfolding spots
+  spots-length = length-map ring (λ p. spot (getD flat (3 * p + j) (pos 0)) (getD flat (3 * p + k) (pos 0)))
+
+  spot-is : (i : ℕ) → i < length ring → getD spots i nowhere ≡ spot (getD us i (pos 0)) (getD vs i (pos 0))
+  unfolding spots
+  spot-is i l =
+      map-at (λ p. spot (getD flat (3 * p + j) (pos 0)) (getD flat (3 * p + k) (pos 0))) ring i 0 nowhere l
+      ∙ (λ t. spot (sym (p .each i l) t) (sym (q .each i l) t))
+
+  edges-are : tab (edgeAt us vs) (length ring - 1) ≡ steps spots
+  edges-are = ext-getD (nowhere, nowhere) _ _ (tab-length (edgeAt us vs) (length ring - 1) ∙ ap (λ (m : ℕ). m - 1) (sym spots-length) ∙ sym (steps-length spots)) each
+    where
+      each : (i : ℕ) → i < length (tab (edgeAt us vs) (length ring - 1)) → getD (tab (edgeAt us vs) (length ring - 1)) i (nowhere, nowhere) ≡ getD (steps spots) i (nowhere, nowhere)
+      each i l =
+          let m : i < length ring - 1 = subst (λ (m : ℕ). i < m) (tab-length (edgeAt us vs) (length ring - 1)) l in
+          tab-at (edgeAt us vs) (length ring - 1) i (nowhere, nowhere) m
+          ∙ sym (steps-at spots i (nowhere, nowhere) nowhere (omega (arith, spots-length)) ∙ (λ t. (spot-is i (omega arith) t, spot-is (i + 1) (omega arith) t)))
+
+  pub crossed-is : isCrossed (tab (edgeAt us vs) (length ring - 1)) ≡ isCrossed (steps (seenSpots flat ring j k))
+  unfolding spots
+  crossed-is = ap isCrossed edges-are
+
+-- ---- the plane left by dropping an axis: the coordinates that it keeps
+abbrev pub uOf : Axis → ℕ
+uOf X = 1
+uOf Y = 2
+uOf Z = 0
+
+abbrev pub vOf : Axis → ℕ
+vOf X = 2
+vOf Y = 0
+vOf Z = 1
+
+drop-is : (axis : Axis) (flat : List ℤ) (p : ℕ) → spot (getD flat (3 * p + uOf axis) (pos 0)) (getD flat (3 * p + vOf axis) (pos 0)) ≡ dropAxis axis (placeAt flat p)
+unfolding dropAxis
+drop-is X flat p = refl
+drop-is Y flat p = λ i. spot (getD flat (3 * p + 2) (pos 0)) (getD flat (plus-zero (3 * p) i) (pos 0))
+  where
+    plus-zero : (n : ℕ) → n + 0 ≡ n
+    plus-zero n = omega arith
+drop-is Z flat p = λ i. spot (getD flat (plus-zero (3 * p) i) (pos 0)) (getD flat (3 * p + 1) (pos 0))
+  where
+    plus-zero : (n : ℕ) → n + 0 ≡ n
+    plus-zero n = omega arith
+
+pub seen-is : {flat : List ℤ} → Coords flat → (axis : Axis) (ring : List ℕ) → ((i : ℕ) → i < length ring → getD ring i 0 < 512)
+    → seenSpots flat ring (uOf axis) (vOf axis) ≡ map (dropAxis axis) (places (pointsOf flat) ring)
+unfolding places
+seen-is h axis [] k = refl
+seen-is {flat} h axis (p ∷ ring) k =
+    ap₂ (λ (s : Spot) (l : List Spot). s ∷ l) (drop-is axis flat p ∙ ap (dropAxis axis) (sym (point-at h p (k 0 (omega arith))))) (seen-is h axis ring (λ i l. k (suc i) (omega arith)))
+
+pub in-plane : {flat : List ℤ} {ring : List ℕ} → Coords flat → Known ring → (axis : Axis)
+    → isCrossed (steps (seenSpots flat ring (uOf axis) (vOf axis))) ≡ isCrossed (edgesIn axis (places (pointsOf flat) ring))
+unfolding edgesIn
+in-plane {flat} {ring} h k axis = ap (λ (l : List Spot). isCrossed (steps l)) (seen-is h axis ring (k .each))

@@ -1,0 +1,70 @@
+-- The checks in order: what is found where the first n have passed and the next fails.
+use Prim.Native.Nat.{ℕ, _≤_, _<_}
+use mathlib.Core.Path.{_≡_, refl, sym, ap, _∙_}
+use mathlib.Core.Bool.{Bool, true, false, not}
+use mathlib.Core.List.{List, [], _∷_}
+use borrow.Author.Tests.{lt-ltb, le-ltb}
+use lib.ListN.{length}
+use Rattle.whole.specs.All.{All, none, more}
+use Rattle.whole.specs.First.{first-is, first-none}
+use Rattle.polygon.specs.declared.Finding.{Finding}
+use Rattle.polygon.specs.declared.Finding.the-variants.{Sound, Short, Unclosed, Repeated, NoNormal, Crossed, Uneven}
+use Rattle.polygon.specs.Space.{Point, places}
+use Rattle.polygon.specs.Plane.{largestAxis}
+use Rattle.polygon.specs.Ring.{finding, isShort, isUnclosed, isRepeated, normal, isZero, edgesIn, isCrossed, isUneven}
+use Rattle.polygon.specs.Checks.{checks, finding-rows}
+
+-- "last entry differs from first", from whether the ring is closed
+pub unclosed-is : {r u t : Bool} → r ≡ not u → not r ≡ t → u ≡ t
+unclosed-is {r} {u} e h = sym (twice u) ∙ ap not (sym e) ∙ h
+  where
+    twice : (b : Bool) → not (not b) ≡ b
+    twice true = refl
+    twice false = refl
+
+module _ (tolerance : ℕ) (points : List Point) (ring : List ℕ) where
+  abbrev n : Point
+  n = normal (places points ring)
+
+  pub found-short : length ring < 4 → Short ≡ finding tolerance points ring
+  unfolding checks isShort
+  found-short h = sym (finding-rows tolerance points ring ∙ first-is Sound [] (isShort ring) Short _ none (lt-ltb (length ring) 4 h))
+
+  module _ (long : 4 ≤ length ring) where
+    one : isShort ring ≡ false
+    unfolding isShort
+    one = le-ltb (length ring) 4 long
+
+    pub found-unclosed : isUnclosed ring ≡ true → Unclosed ≡ finding tolerance points ring
+    unfolding checks
+    found-unclosed h = sym (finding-rows tolerance points ring ∙ first-is Sound ((isShort ring, Short) ∷ []) (isUnclosed ring) Unclosed _ (more one none) h)
+
+    module _ (two : isUnclosed ring ≡ false) where
+      pub found-repeated : isRepeated ring ≡ true → Repeated ≡ finding tolerance points ring
+      unfolding checks
+      found-repeated h = sym (finding-rows tolerance points ring ∙ first-is Sound ((isShort ring, Short) ∷ (isUnclosed ring, Unclosed) ∷ []) (isRepeated ring) Repeated _ (more one (more two none)) h)
+
+      module _ (three : isRepeated ring ≡ false) where
+        pub found-no-normal : isZero n ≡ true → NoNormal ≡ finding tolerance points ring
+        unfolding checks
+        found-no-normal h =
+            sym (finding-rows tolerance points ring ∙ first-is Sound ((isShort ring, Short) ∷ (isUnclosed ring, Unclosed) ∷ (isRepeated ring, Repeated) ∷ []) (isZero n) NoNormal _ (more one (more two (more three none))) h)
+
+        module _ (four : isZero n ≡ false) where
+          abbrev crossed : Bool
+          crossed = isCrossed (edgesIn (largestAxis n) (places points ring))
+
+          pub found-crossed : crossed ≡ true → Crossed ≡ finding tolerance points ring
+          unfolding checks
+          found-crossed h =
+              sym (finding-rows tolerance points ring ∙ first-is Sound ((isShort ring, Short) ∷ (isUnclosed ring, Unclosed) ∷ (isRepeated ring, Repeated) ∷ (isZero n, NoNormal) ∷ []) crossed Crossed _ (more one (more two (more three (more four none)))) h)
+
+          module _ (five : crossed ≡ false) where
+            pub found-uneven : isUneven tolerance n (places points ring) ≡ true → Uneven ≡ finding tolerance points ring
+            unfolding checks
+            found-uneven h =
+                sym (finding-rows tolerance points ring ∙ first-is Sound ((isShort ring, Short) ∷ (isUnclosed ring, Unclosed) ∷ (isRepeated ring, Repeated) ∷ (isZero n, NoNormal) ∷ (crossed, Crossed) ∷ []) (isUneven tolerance n (places points ring)) Uneven [] (more one (more two (more three (more four (more five none))))) h)
+
+            pub found-sound : isUneven tolerance n (places points ring) ≡ false → Sound ≡ finding tolerance points ring
+            unfolding checks
+            found-sound h = sym (finding-rows tolerance points ring ∙ first-none Sound (checks tolerance points ring) (more one (more two (more three (more four (more five (more h none)))))))

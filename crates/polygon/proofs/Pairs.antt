@@ -1,0 +1,140 @@
+-- Check 05, pair of edges by pair of edges.
+use Prim.Native.Nat.{ℕ, zero, suc, _+_, _*_, _-_, _≤_, _<_}
+use native.Mathlib.Omega.{arith}
+use native.Mathlib.Numerals.{add-one}
+use mathlib.Core.Path.{_≡_, refl, sym, ap, ap₂, _∙_, subst}
+use mathlib.Core.Bool.{Bool, true, false, not, _&&_, _||_, true≢false, false≢true}
+use mathlib.Core.List.{List, [], _∷_}
+use borrow.Author.Tests.{eq-eqb, ne-eqb}
+use lib.Dec.{eqb}
+use lib.ListN.{length, getD, drop}
+use lib.IntN.{ℤ, pos}
+use Rattle.whole.specs.Lists.{any, anyTwo, tab, numbered}
+use Rattle.whole.specs.Search.{any-here, any-next, any-end, two-here, two-next, two-end}
+use Rattle.whole.specs.Places.{tab-length, tab-at, numbered-length, numbered-at}
+use Rattle.polygon.specs.Plane.{Spot, Segment, side, sameSign, overlap, share, shareMore}
+use Rattle.polygon.specs.Ring.{follows, forbidden, isCrossed}
+use Rattle.polygon.specs.Leaves.{Close, Ends, edgeAt, Spread, spot}
+
+-- ---- what `share` finds, test by test
+none-apart : (a b c d : Bool) → (not a || not b) ≡ true → false ≡ (a && b && c && d)
+none-apart false b c d e = refl
+none-apart true false c d e = refl
+none-apart true true c d e = absurd (false≢true e)
+
+none-beside : (a b c d : Bool) → c ≡ true → false ≡ (a && b && not c && d)
+none-beside false b c d e = refl
+none-beside true false c d e = refl
+none-beside true true true d e = refl
+none-beside true true false d e = absurd (false≢true e)
+
+as-last : (a b c d : Bool) → (not a || not b) ≡ false → c ≡ false → not d ≡ (a && b && not c && not d)
+as-last true true false d e f = refl
+as-last true true true d e f = absurd (true≢false f)
+as-last true false c d e f = absurd (true≢false e)
+as-last false b c d e f = absurd (true≢false e)
+
+module _ (e f : Segment) {beside above : Bool} (on-u : beside ≡ not (overlap (e .0 .u) (e .1 .u) (f .0 .u) (f .1 .u))) (on-v : above ≡ not (overlap (e .0 .v) (e .1 .v) (f .0 .v) (f .1 .v))) where
+  pub share-apart : (beside || above) ≡ true → false ≡ share e f
+  unfolding share
+  share-apart t = none-apart (overlap (e .0 .u) (e .1 .u) (f .0 .u) (f .1 .u)) (overlap (e .0 .v) (e .1 .v) (f .0 .v) (f .1 .v)) (not (sameSign (side (e .0) (e .1) (f .0)) (side (e .0) (e .1) (f .1)))) (not (sameSign (side (f .0) (f .1) (e .0)) (side (f .0) (f .1) (e .1)))) (sym (ap₂ _||_ on-u on-v) ∙ t)
+
+  module _ {one : Bool} (on-e : one ≡ sameSign (side (e .0) (e .1) (f .0)) (side (e .0) (e .1) (f .1))) where
+    pub share-beside : one ≡ true → false ≡ share e f
+    unfolding share
+    share-beside t = none-beside (overlap (e .0 .u) (e .1 .u) (f .0 .u) (f .1 .u)) (overlap (e .0 .v) (e .1 .v) (f .0 .v) (f .1 .v)) (sameSign (side (e .0) (e .1) (f .0)) (side (e .0) (e .1) (f .1))) (not (sameSign (side (f .0) (f .1) (e .0)) (side (f .0) (f .1) (e .1)))) (sym on-e ∙ t)
+
+    pub share-last : {other : Bool} → (beside || above) ≡ false → one ≡ false → other ≡ sameSign (side (f .0) (f .1) (e .0)) (side (f .0) (f .1) (e .1)) → not other ≡ share e f
+    unfolding share
+    share-last t s on-f = ap not on-f ∙ as-last (overlap (e .0 .u) (e .1 .u) (f .0 .u) (f .1 .u)) (overlap (e .0 .v) (e .1 .v) (f .0 .v) (f .1 .v)) (sameSign (side (e .0) (e .1) (f .0)) (side (e .0) (e .1) (f .1))) (sameSign (side (f .0) (f .1) (e .0)) (side (f .0) (f .1) (e .1))) (sym (ap₂ _||_ on-u on-v) ∙ t) (sym on-e ∙ s)
+
+-- ---- which pairs are neighbours: i before j
+follows-yes : (m i j : ℕ) → i + 1 ≡ j → follows m i j ≡ true
+unfolding follows
+follows-yes m i j e = ap (λ (t : Bool). t || eqb j 0 && eqb (suc i) m) (eq-eqb j (suc i) (omega arith))
+
+follows-not : (m i j : ℕ) → i < j → (i + 1 ≡ j → ⊥) → follows m i j ≡ false
+unfolding follows
+follows-not m i j h f =
+    ap₂ (λ (t s : Bool). t || s && eqb (suc i) m) (ne-eqb j (suc i) (λ e. f (add-one i ∙ sym e))) (ne-eqb j 0 (λ e. absurd (omega arith)))
+
+follows-back : (m i j : ℕ) → i < j → follows m j i ≡ (eqb i 0 && eqb (j + 1) m)
+unfolding follows
+follows-back m i j h = ap₂ (λ (t : Bool) (n : ℕ). t || eqb i 0 && eqb n m) (ne-eqb i (suc j) (λ e. omega arith)) (sym (add-one j))
+
+abbrev pick : Bool → Bool → Segment → Segment → Bool
+pick s t e f = elim s [ true ↦ shareMore e f | false ↦ elim t [ true ↦ shareMore f e | false ↦ share e f ] ]
+
+module _ (m i j : ℕ) (e f : Segment) where
+  picked : forbidden m (i, e) (j, f) ≡ pick (follows m i j) (follows m j i) e f
+  unfolding forbidden
+  picked = refl
+
+  pub clash-next : i + 1 ≡ j → shareMore e f ≡ forbidden m (i, e) (j, f)
+  clash-next z = sym (picked ∙ ap (λ (s : Bool). pick s (follows m j i) e f) (follows-yes m i j z))
+
+  module _ (h : i < j) (z : i + 1 ≡ j → ⊥) where
+    rest : {t : Bool} → (eqb i 0 && eqb (j + 1) m) ≡ t → pick false t e f ≡ forbidden m (i, e) (j, f)
+    rest y = sym (picked ∙ ap₂ (λ (s t : Bool). pick s t e f) (follows-not m i j h z) (follows-back m i j h ∙ y))
+
+    pub clash-last : (eqb i 0 && eqb (j + 1) m) ≡ true → shareMore f e ≡ forbidden m (i, e) (j, f)
+    clash-last y = rest y
+
+    pub clash-other : (eqb i 0 && eqb (j + 1) m) ≡ false → share e f ≡ forbidden m (i, e) (j, f)
+    clash-other y = rest y
+
+-- ---- the edges between places that are there
+pub ends-at : {us vs : List ℤ} {m : ℕ} → Spread us vs m → (i : ℕ) → i < m → Ends (edgeAt us vs i)
+ends-at s i h =
+    record {
+      from = record { on-u = s .close-u i (omega arith); on-v = s .close-v i (omega arith) };
+      to = record { on-u = s .close-u (i + 1) (omega arith); on-v = s .close-v (i + 1) (omega arith) };
+    }
+
+pub ends-same : {e f : Segment} → e ≡ f → Ends f → Ends e
+ends-same e h = subst (λ (s : Segment). Ends s) (sym e) h
+
+module _ (us vs : List ℤ) (m : ℕ) where
+  -- the edges with their numbers
+  abbrev pub edges : List (ℕ × Segment)
+  edges = numbered (tab (edgeAt us vs) m)
+
+  nowhere : ℕ × Segment
+  nowhere = (0, (spot (pos 0) (pos 0), spot (pos 0) (pos 0)))
+
+  edges-length : length edges ≡ m
+  edges-length = numbered-length (tab (edgeAt us vs) m) ∙ tab-length (edgeAt us vs) m
+
+  edge-is : (j : ℕ) → j < m → getD edges j nowhere ≡ (j, edgeAt us vs j)
+  edge-is j h =
+      numbered-at (tab (edgeAt us vs) m) j nowhere (nowhere .1) (subst (λ (n : ℕ). j < n) (sym (tab-length (edgeAt us vs) m)) h)
+      ∙ ap (λ (e : Segment). (j, e)) (tab-at (edgeAt us vs) m j (nowhere .1) h)
+
+  inside : (j : ℕ) → j < m → j < length edges
+  inside j h = subst (λ (n : ℕ). j < n) (sym edges-length) h
+
+  -- ---- one row: an edge and a later one
+  module _ (t : ℕ × Segment → Bool) (j : ℕ) where
+    pub row-here : j < m → t (j, edgeAt us vs j) ≡ true → any t (drop j edges) ≡ true
+    row-here h e = any-here t edges j nowhere (inside j h) (ap t (edge-is j h) ∙ e)
+
+    pub row-next : j < m → t (j, edgeAt us vs j) ≡ false → any t (drop (j + 1) edges) ≡ any t (drop j edges)
+    row-next h e = sym (any-next t edges j nowhere (inside j h) (ap t (edge-is j h) ∙ e))
+
+    pub row-end : j ≡ m → any t (drop j edges) ≡ false
+    row-end e = any-end t edges j (e ∙ sym edges-length)
+
+  -- ---- all rows
+  pub rows-all : anyTwo (forbidden m) edges ≡ isCrossed (tab (edgeAt us vs) m)
+  unfolding isCrossed
+  rows-all = ap (λ (n : ℕ). anyTwo (forbidden n) edges) (sym (tab-length (edgeAt us vs) m))
+
+  module _ (i : ℕ) where
+    pub rows-here : i < m → any (forbidden m (i, edgeAt us vs i)) (drop (i + 1) edges) ≡ true → anyTwo (forbidden m) (drop i edges) ≡ true
+    rows-here h e = two-here (forbidden m) edges i nowhere (inside i h) (ap (λ (x : ℕ × Segment). any (forbidden m x) (drop (i + 1) edges)) (edge-is i h) ∙ e)
+
+    pub rows-next : i < m → any (forbidden m (i, edgeAt us vs i)) (drop (i + 1) edges) ≡ false → anyTwo (forbidden m) (drop (i + 1) edges) ≡ anyTwo (forbidden m) (drop i edges)
+    rows-next h e = sym (two-next (forbidden m) edges i nowhere (inside i h) (ap (λ (x : ℕ × Segment). any (forbidden m x) (drop (i + 1) edges)) (edge-is i h) ∙ e))
+
+    pub rows-end : i ≡ m → anyTwo (forbidden m) (drop i edges) ≡ false
+    rows-end e = two-end (forbidden m) edges i (e ∙ sym edges-length)

@@ -1,0 +1,36 @@
+use Rattle.polygon.proofs.Stretches.{apart-is}
+use Rattle.polygon.specs.Leaves.{least, most}
+use Rattle.whole.specs.Size.{call-is}
+use mir.Facts.{toZ-ofZ}
+use mir.Syntax.{w64}
+use lib.Signed.{ltZ}
+use mathlib.Core.Bool.{_&&_, _||_}
+use mathlib.Core.Path.{_∙_, ap₂}
+use borrow.Author.Needs.{needs}
+use Rattle.polygon.proofs.apart.Statement.{statement}
+use Rattle.polygon.proofs.apart.Tie as tie
+use Rattle.polygon.proofs.apart.Reads as reads
+use Rattle.polygon.proofs.apart.Lts as lts
+use Rattle.polygon.proofs.lower.Reads as lower-reads
+use Rattle.polygon.proofs.upper.Reads as upper-reads
+
+-- src/lib.rt:386:9
+lower-requires : tie.Need-lower-requires
+lower-requires c κs = search needs
+
+-- src/lib.rt:387:9
+upper-requires : tie.Need-upper-requires
+upper-requires c κs = search needs
+
+-- src/lib.rt:383:1
+returns : tie.Need-returns
+returns c =
+    let f = c .before .before .fits in
+    let a = c .before .before .args in
+    let lo = call-is w64 (c .before .lower .ok) (c .before .lower .ensures ∙ ap₂ least (toZ-ofZ (f .p)) (toZ-ofZ (f .q))) in
+    let hi = call-is w64 (c .upper .ok) (c .upper .ensures ∙ ap₂ most (toZ-ofZ (f .p)) (toZ-ofZ (f .q))) in
+    (λ i. ltZ (hi i) (toZ-ofZ (f .c) i) && ltZ (hi i) (toZ-ofZ (f .d) i) || ltZ (toZ-ofZ (f .c) i) (lo i) && ltZ (toZ-ofZ (f .d) i) (lo i))
+    ∙ apart-is (a .p) (a .q) (a .c) (a .d)
+
+pub apart-spec : {M : Type 1} → statement M
+apart-spec = tie.close (tie.spec lower-requires upper-requires returns)
