@@ -2,15 +2,15 @@
 use Prim.Native.Nat.{ℕ, zero, suc, _+_, _-_, _≤_, _<_}
 use native.Mathlib.Omega.{arith}
 use mathlib.Core.Path.{_≡_, refl, sym, ap, ap₂, _∙_, subst}
-use mathlib.Core.Bool.{Bool, true, false, _&&_, true≢false, false≢true}
+use mathlib.Core.Bool.{Bool, true, false, _&&_, _||_, true≢false, false≢true}
 use mathlib.Core.List.{List, [], _∷_, _++_, map}
 use mathlib.Core.Logic.{_⊎_, inl, inr, ⊎-elim}
-use borrow.Author.Tests.{ltb-true, ltb-false, leb-true, le-leb}
-use lib.Dec.{ltb, leb}
+use borrow.Author.Tests.{ltb-true, ltb-false, leb-true, le-leb, not-false}
+use lib.Dec.{ltb, leb, eqb}
 use lib.ListN.{length, getD, take, drop, length-append, length-drop}
 use lib.IntN.{ℤ, pos}
-use Rattle.whole.specs.Lists.{tab}
-use Rattle.polygon.specs.Ring.{finding, findingNumber, part}
+use Rattle.whole.specs.Lists.{tab, lastOf}
+use Rattle.polygon.specs.Ring.{isShort, isUnclosed, isRepeated, finding, findingNumber, part}
 use Rattle.polygon.specs.Held.{pointsOf}
 use Rattle.shell.specs.declared.Shape.{Shape}
 use Rattle.shell.specs.Held.{ringAt, rings, Starts}
@@ -18,11 +18,11 @@ use Rattle.shell.specs.Table.{span, stepWord, ringWords, wordsTo, tableOf, asce
 use Rattle.shell.specs.Ascending.{length-ascending}
 use Rattle.shell.specs.Kept as S
 use Rattle.shell.specs.EdgedLaws.{edged-built}
+use Rattle.shell.specs.SoundLaws.{sound-ring}
 use Rattle.building.specs.declared.Scalars.{Scalars}
 use Rattle.building.specs.Tables.{loaded}
 use Rattle.building.specs.Lists.{cases, tab-ext, take-is-tab, map-tab, upto, upto-done, length-upto}
 use Rattle.building.specs.Findings.{isBroken, Early, early-broken, broken-early}
-use Rattle.building.specs.Sounds.{sound-ring}
 use Rattle.building.specs.Holds.{Arrays, arrays, heldTables, heldBuilding, Loaded, Sizes, Found, Summed, Broken, Kept, Held, Did}
 use Rattle.building.specs.Steps.{numberAt, partAt, Checked, zeroed, zeroed-all, zeroed-length}
 
@@ -75,6 +75,20 @@ module _ (l : List ℕ) (n : ℕ) where
     where
       clash : (i n : ℕ) → i < n → n ≤ i → ⊥
       clash i n g h = omega arith
+
+-- ---- a ring that fails none of them is one that the shell's table takes
+none-of : (s u r : Bool) → (s || u || r) ≡ false → (s ≡ false) × (u ≡ false) × (r ≡ false)
+none-of false false false e = (refl, refl, refl)
+none-of false false true e = absurd (true≢false e)
+none-of false true r e = absurd (true≢false e)
+none-of true u r e = absurd (true≢false e)
+
+sound-of : (ring : List ℕ) → isBroken ring ≡ false → S.Sound ring
+unfolding isBroken isShort isUnclosed isRepeated
+sound-of [] e = absurd (true≢false (none-of (isShort []) (isUnclosed []) (isRepeated []) e .0))
+sound-of (a ∷ l) e =
+    let n = none-of (isShort (a ∷ l)) (isUnclosed (a ∷ l)) (isRepeated (a ∷ l)) e in
+    sound-ring a l (n .0) (not-false (eqb a (lastOf a l)) (n .1)) (n .2)
 
 -- ---- the table keeps its size
 length-span : (f : ℕ → ℕ) (i n : ℕ) → length (span f i n) ≡ n
@@ -134,7 +148,7 @@ module _ {points : List ℤ} {entries starts : List ℕ} {s : Scalars} (ld : Loa
         points = s .points;
         held = ld .entered;
         begin = ld .begins;
-        sound = λ p g. sound-ring (ringAt entries starts p) (whole p g (isBroken (ringAt entries starts p)) refl);
+        sound = λ p g. sound-of (ringAt entries starts p) (whole p g (isBroken (ringAt entries starts p)) refl);
       }
     where
       whole : (p : ℕ) → p < s .polygons → (b : Bool) → isBroken (ringAt entries starts p) ≡ b → b ≡ false
@@ -167,7 +181,7 @@ module _ (a : Arrays) (s : Scalars) (ld : Loaded (a .points) (a .entries) (a .st
       rw (e, f)
       (record {
         held = record {
-          loaded = record { coords = ld .coords; begins = ld .begins; entered = ld .entered; tolerant = ld .tolerant; short = ld .short };
+          loaded = record { coords = ld .coords; first = ld .first; begins = ld .begins; entered = ld .entered; tolerant = ld .tolerant; short = ld .short };
           stamped = length-upto (λ p old. 0) 0 (a .stamps) 256 ∙ sz .stamps;
           kept = record {
             found = record { size = fo .size; each = fo .each };

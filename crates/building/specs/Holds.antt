@@ -58,6 +58,7 @@ heldBuilding a s =
 -- the bounds of what a load fills
 pub record Loaded (points : List ℤ) (entries starts : List ℕ) (s : Scalars) : Type 0 where
   pub coords : Coords points
+  pub first : getD starts 0 0 ≡ 0
   pub begins : Starts starts (s .polygons)
   pub entered : Entries entries (getD starts (s .polygons) 0) (s .points)
   pub tolerant : s .tolerance ≤ 1000

@@ -12,6 +12,7 @@ use borrow.Author.Tests.{ltb-true, ltb-false}
 use lib.ListN.{length, getD, take, drop, set, length-set, length-append, length-take, length-drop, length-reverse, List·getD-append}
 use lib.Seq.{sets, length-sets, sets-eq, drop-cons, getD-set-same, getD-set-other, take-at, drop-at, take-set-le, drop-set-lt, length-take-le, getD-take, getD-drop, take-append-seam, take-nil, take-suc, getD-at, set-at, set-append-left, set-comm, set-getD, ext-getD}
 use Rattle.whole.specs.Lists.{tab}
+use Rattle.shell.specs.Tabs.{length-tab, getD-tab}
 
 -- the elements from place a up to place e
 abbrev pub cut : {A : Type 0} → ℕ → ℕ → List A → List A
@@ -35,21 +36,6 @@ module _ {A : Type 0} where
       let t : tab f n ≡ tab g n = tab-ext f g n (λ p q. h p (omega arith)) in
       let e : f n ≡ g n = h n (omega arith) in
       rw (t, e)
-
-  pub length-tab : (f : ℕ → A) (n : ℕ) → length (tab f n) ≡ n
-  unfolding tab
-  length-tab f zero = refl
-  length-tab f (suc n) =
-      let h : length (tab f n) ≡ n = length-tab f n in
-      length-append (tab f n) (f n ∷ []) ∙ (rw h (omega arith))
-
-  pub getD-tab : (f : ℕ → A) (n p : ℕ) (d : A) → p < n → getD (tab f n) p d ≡ f p
-  unfolding tab
-  getD-tab f zero p d h = absurd (omega arith)
-  getD-tab f (suc n) p d h =
-      cases (ltb p n)
-      (λ t. List·getD-append (tab f n) (f n ∷ []) d p (rw length-tab (ltb-true p n t)) ∙ getD-tab f n p d (ltb-true p n t))
-      (λ t. let e : p ≡ n = omega (arith, ltb-false p n t) in rw e (getD-at (tab f n) (f n) [] d n (length-tab f n)))
 
   pub tab-set : (f g : ℕ → A) (n p : ℕ) → p < n → ((q : ℕ) → q < n → (q ≡ p → ⊥) → g q ≡ f q) → tab g n ≡ set (tab f n) p (g p)
   unfolding tab

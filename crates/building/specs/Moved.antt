@@ -20,7 +20,8 @@ use Rattle.polygon.specs.Held.{pointsOf, Coords, pointsOf-set}
 use Rattle.shell.specs.Held.{ringAt, rings}
 use Rattle.building.specs.declared.Scalars.{Scalars}
 use Rattle.building.specs.Tables.{isFar, stampUsers, moved}
-use Rattle.building.specs.Lists.{upto, upto-done, length-upto, length-tab, getD-tab}
+use Rattle.shell.specs.Tabs.{length-tab, getD-tab}
+use Rattle.building.specs.Lists.{upto, upto-done, length-upto}
 use Rattle.building.specs.Holds.{point3, placed, Arrays, arrays, heldTables, heldBuilding, Loaded, Found, Summed, Kept, Held, Did}
 use Rattle.building.specs.Rings.{all-set}
 use Rattle.building.specs.Steps.{numberAt, partAt, restamp, refind, repart, Looked}
@@ -134,7 +135,7 @@ moved-stamps entries starts number n m stamps w =
 -- ---- all of it
 module _ {points : List ℤ} {entries starts : List ℕ} {s : Scalars} (ld : Loaded points entries starts s) (n : ℕ) (p : Point) where
   pub moved-loaded : NearPlace p → Loaded (placed points n p) entries starts s
-  moved-loaded near = record { coords = placed-coords points n p (ld .coords) near; begins = ld .begins; entered = ld .entered; tolerant = ld .tolerant; short = ld .short }
+  moved-loaded near = record { coords = placed-coords points n p (ld .coords) near; first = ld .first; begins = ld .begins; entered = ld .entered; tolerant = ld .tolerant; short = ld .short }
 
 module _ (a : Arrays) (s : Scalars) (hd : Held a s) (number n : ℕ) (p : Point) (h : n < s .points) (near : NearPlace p) where
   pub did-moved : {points' : List ℤ} {stamps' findings' : List ℕ} {parts' : List ℤ}
@@ -154,7 +155,7 @@ module _ (a : Arrays) (s : Scalars) (hd : Held a s) (number n : ℕ) (p : Point)
       rw (lo .stamped, lo .found, lo .summed, e)
       (record {
         held = record {
-          loaded = record { coords = lm .coords; begins = lm .begins; entered = lm .entered; tolerant = lm .tolerant; short = lm .short };
+          loaded = record { coords = lm .coords; first = lm .first; begins = lm .begins; entered = lm .entered; tolerant = lm .tolerant; short = lm .short };
           stamped = length-upto (restamp (a .entries) (a .starts) number n) 0 (a .stamps) (s .polygons) ∙ hd .stamped;
           kept = record {
             found = record { size = fo .size; each = fo .each };

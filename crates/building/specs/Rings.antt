@@ -14,7 +14,8 @@ use Rattle.whole.specs.Lists.{tab, at}
 use Rattle.polygon.specs.Held.{Coords, Known}
 use Rattle.shell.specs.Held.{ringAt, rings, Starts, Entries}
 use Rattle.building.specs.declared.Scalars.{Scalars}
-use Rattle.building.specs.Lists.{cases, cut, length-cut, getD-cut, cut-sets, cut-sets-past, cut-sets-before, tab-set, getD-tab, length-tab}
+use Rattle.shell.specs.Tabs.{getD-tab, length-tab}
+use Rattle.building.specs.Lists.{cases, cut, length-cut, getD-cut, cut-sets, cut-sets-past, cut-sets-before, tab-set}
 use Rattle.building.specs.Holds.{Loaded}
 
 -- ring p lies in the table, and is one that the polygon's code takes
@@ -158,6 +159,7 @@ module _ {points : List ℤ} {entries starts : List ℕ} {s : Scalars} (ld : Loa
   turned-loaded =
       record {
         coords = ld .coords;
+        first = ld .first;
         begins = ld .begins;
         entered = turned-entered;
         tolerant = ld .tolerant;

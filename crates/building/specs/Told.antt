@@ -29,7 +29,8 @@ use Rattle.building.specs.declared.Verdict.{Verdict}
 use Rattle.building.specs.declared.Verdict.the-variants.{Accepted, Faulty, Unsound, Inward}
 use Rattle.building.specs.Tables.{Tables}
 use Rattle.building.specs.Report.{findings, isFault, lowestFault, sixVolume, shapeFault, verdict, report}
-use Rattle.building.specs.Lists.{tab-ext, take-is-tab, map-tab, length-tab, getD-tab}
+use Rattle.shell.specs.Tabs.{length-tab, getD-tab}
+use Rattle.building.specs.Lists.{tab-ext, take-is-tab, map-tab}
 use Rattle.building.specs.Findings.{number-same, number-few, Early, broken-early}
 use Rattle.building.specs.Holds.{Arrays, heldTables, heldBuilding, Loaded, Found, Summed, Broken, Kept}
 use Rattle.building.specs.Rings.{Ring, ring-of, ring-below, ring-length}

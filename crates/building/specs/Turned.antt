@@ -25,7 +25,8 @@ use Rattle.shell.specs.Held.{ringAt, rings}
 use Rattle.shell.specs.EdgedLaws.{edged-turned}
 use Rattle.building.specs.declared.Scalars.{Scalars}
 use Rattle.building.specs.Tables.{Building, turned}
-use Rattle.building.specs.Lists.{cases, tab-set, getD-tab, length-tab}
+use Rattle.shell.specs.Tabs.{getD-tab, length-tab}
+use Rattle.building.specs.Lists.{cases, tab-set}
 use Rattle.building.specs.Findings.{isBroken, broken-turned}
 use Rattle.building.specs.Holds.{Arrays, arrays, heldTables, heldBuilding, Loaded, Found, Summed, Broken, Kept, Held, Did}
 use Rattle.building.specs.Rings.{Ring, rings-length, ring-of, turnedEntries, turned-own, turned-known, turned-other, turned-same, turned-rings, turned-loaded, at-is-set, all-set}
@@ -120,7 +121,7 @@ module _ (a : Arrays) (s : Scalars) (hd : Held a s) (number p : ℕ) (h : p < s 
       rw (e₁, e₂, e₃, e₄)
       (record {
         held = record {
-          loaded = record { coords = lt .coords; begins = lt .begins; entered = lt .entered; tolerant = lt .tolerant; short = lt .short };
+          loaded = record { coords = lt .coords; first = lt .first; begins = lt .begins; entered = lt .entered; tolerant = lt .tolerant; short = lt .short };
           stamped = length-set (a .stamps) p number ∙ hd .stamped;
           kept = record {
             found = record { size = turned-found ld p h (kp .found) .size; each = turned-found ld p h (kp .found) .each };

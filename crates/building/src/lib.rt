@@ -9,18 +9,20 @@ ghost use lib.Dec.{ltb};
 ghost use lib.ListN.{length, getD, set, take};
 ghost use lib.Seq.{sets};
 ghost use lib.IntN.{pos, natAbs};
-ghost use Rattle.whole.specs.Lists.{tally, sumOf};
+ghost use Rattle.whole.specs.Lists.{tally, sumOf, lists};
 ghost use Rattle.polygon.specs.Space.{samePlace};
 ghost use Rattle.polygon.specs.Ring.{finding, findingNumber, part};
 ghost use Rattle.polygon.specs.Held.{pointsOf, placeAt, Coords, Known};
 ghost use Rattle.shell.specs.Held.{ringAt};
 ghost use Rattle.shell.specs.Shell.{shapeNumber, shapeA, shapeB};
-ghost use Rattle.building.specs.Tables.{isFar, standsElse};
+ghost use Rattle.building.specs.Tables.{isFar, standsElse, loaded, moved};
 ghost use Rattle.building.specs.Tables as Tables;
 ghost use Rattle.building.specs.Report.{checkNumber, elementA, elementB, verdict};
 ghost use Rattle.building.specs.Lists.{cut};
-ghost use Rattle.building.specs.Holds.{point3, placed, arrays, heldTables, heldBuilding, Loaded, Kept, Held, Did};
+ghost use Rattle.building.specs.Holds.{point3, placed, arrays, heldTables, heldBuilding, Loaded, Sizes, Kept, Held, Did};
 ghost use Rattle.building.specs.Rings.{Ring, turnedEntries};
+ghost use Rattle.building.specs.Steps.{Refreshed, Touched, Looked, Checked, zeroed};
+ghost use Rattle.building.specs.Check.{isEarly, EarlyAt};
 ghost use Rattle.building.specs.Places.{elseAt};
 ghost use Rattle.building.specs.Scans.{lowest, Summable};
 
@@ -223,6 +225,259 @@ pub fn turn_polygon(
         polygons: s.polygons,
         last: number,
         edges: s.edges,
+        fixed: fixed,
+    }
+}
+
+// Whether ring p lists point n.
+fn uses(entries: &[u16; 1024], starts: &[u16; 257], p: usize, n: u16) -> bool
+    requires { ⌜ Ring (now entries) (now starts) p ⌝ }
+    ensures { λ r. ⌜ r ≡ lists n (ringAt (now (entries .entry)) (now (starts .entry)) p) ⌝ }
+{
+    let from = starts[p] as usize;
+    let to = starts[p + 1] as usize;
+    let all = &entries[..];
+    polygon::lists(&all[from..to], n)
+}
+
+// The finding and the part of polygon p, anew.
+fn refresh(
+    points: &[i64; 1536],
+    entries: &[u16; 1024],
+    starts: &[u16; 257],
+    findings: &mut [u8; 256],
+    parts: &mut [i64; 256],
+    tolerance: u16,
+    p: usize,
+)
+    requires { ⌜ Coords (now points) ⌝ }
+    requires { ⌜ Ring (now entries) (now starts) p ⌝ }
+    requires { ⌜ (tolerance ≤ 1000) × ((length (now findings) ≡ 256) × (length (now parts) ≡ 256)) ⌝ }
+    ensures { λ _. ⌜ Refreshed tolerance (now (points .entry)) (now (entries .entry)) (now (starts .entry)) p (now (findings .entry)) (now (parts .entry)) (now (findings .exit)) (now (parts .exit)) ⌝ }
+{
+    let from = starts[p] as usize;
+    let to = starts[p + 1] as usize;
+    let all = &entries[..];
+    let ring = &all[from..to];
+    let finding = polygon::finding_of(points, ring, tolerance);
+    let part = polygon::part_of(points, ring);
+    findings[p] = finding_number(finding);
+    parts[p] = part;
+}
+
+// Polygon p looked at again and stamped, if its ring lists point n.
+fn touch(
+    points: &[i64; 1536],
+    entries: &[u16; 1024],
+    starts: &[u16; 257],
+    stamps: &mut [u32; 256],
+    findings: &mut [u8; 256],
+    parts: &mut [i64; 256],
+    tolerance: u16,
+    p: usize,
+    n: u16,
+    number: u32,
+)
+    requires { ⌜ Coords (now points) ⌝ }
+    requires { ⌜ Ring (now entries) (now starts) p ⌝ }
+    requires { ⌜ (tolerance ≤ 1000) × ((length (now stamps) ≡ 256) × ((length (now findings) ≡ 256) × (length (now parts) ≡ 256))) ⌝ }
+    ensures { λ _. ⌜ Touched tolerance (now (points .entry)) (now (entries .entry)) (now (starts .entry)) number n p (now (stamps .entry)) (now (findings .entry)) (now (parts .entry)) (now (stamps .exit)) (now (findings .exit)) (now (parts .exit)) ⌝ }
+{
+    if uses(entries, starts, p, n) {
+        refresh(points, entries, starts, findings, parts, tolerance, p);
+        stamps[p] = number;
+    }
+}
+
+// All polygons looked at again whose rings list point n.
+fn look_again(
+    points: &[i64; 1536],
+    entries: &[u16; 1024],
+    starts: &[u16; 257],
+    stamps: &mut [u32; 256],
+    findings: &mut [u8; 256],
+    parts: &mut [i64; 256],
+    s: Scalars,
+    n: u16,
+    number: u32,
+)
+    requires { ⌜ Loaded (now points) (now entries) (now starts) s ⌝ }
+    requires { ⌜ (length (now stamps) ≡ 256) × ((length (now findings) ≡ 256) × (length (now parts) ≡ 256)) ⌝ }
+    ensures { λ _. ⌜ Looked (s .tolerance) (now (points .entry)) (now (entries .entry)) (now (starts .entry)) number n (s .polygons) (now (stamps .entry)) (now (findings .entry)) (now (parts .entry)) (now (stamps .exit)) (now (findings .exit)) (now (parts .exit)) ⌝ }
+{
+    let polygons = s.polygons;
+    let tolerance = s.tolerance;
+    let mut p = 0;
+    while p < polygons {
+        touch(
+            points,
+            entries,
+            starts,
+            stamps,
+            findings,
+            parts,
+            tolerance,
+            p,
+            n,
+            number,
+        );
+        p += 1;
+    }
+}
+
+// The point stands elsewhere, and the polygons that list it are stamped.
+pub fn move_point(
+    points: &mut [i64; 1536],
+    entries: &[u16; 1024],
+    starts: &[u16; 257],
+    stamps: &mut [u32; 256],
+    findings: &mut [u8; 256],
+    parts: &mut [i64; 256],
+    table: &[u64; 1024],
+    turned: &[u8; 256],
+    s: Scalars,
+    number: u32,
+    n: usize,
+    x: i64,
+    y: i64,
+    z: i64,
+) -> Scalars
+    requires { ⌜ Held (arrays (now points) (now entries) (now starts) (now stamps) (now findings) (now parts) (now table) (now turned)) s ⌝ }
+    requires { ⌜ n < s .points ⌝ }
+    requires { ⌜ isFar (point3 x y z) ≡ false ⌝ }
+    ensures { λ r. ⌜ Did (moved number n (point3 x y z) (heldBuilding (arrays (now (points .entry)) (now (entries .entry)) (now (starts .entry)) (now (stamps .entry)) (now (findings .entry)) (now (parts .entry)) (now (table .entry)) (now (turned .entry))) s)) (arrays (now (points .exit)) (now (entries .entry)) (now (starts .entry)) (now (stamps .exit)) (now (findings .exit)) (now (parts .exit)) (now (table .entry)) (now (turned .entry))) r ⌝ }
+{
+    place(points, n, x, y, z);
+    look_again(
+        points,
+        entries,
+        starts,
+        stamps,
+        findings,
+        parts,
+        s,
+        n as u16,
+        number,
+    );
+    let fixed = s.fixed;
+    Scalars {
+        tolerance: s.tolerance,
+        points: s.points,
+        polygons: s.polygons,
+        last: number,
+        edges: s.edges,
+        fixed: fixed,
+    }
+}
+
+// Every polygon's finding and part.
+fn check_rings(
+    points: &[i64; 1536],
+    entries: &[u16; 1024],
+    starts: &[u16; 257],
+    findings: &mut [u8; 256],
+    parts: &mut [i64; 256],
+    s: Scalars,
+)
+    requires { ⌜ Loaded (now points) (now entries) (now starts) s ⌝ }
+    requires { ⌜ (length (now findings) ≡ 256) × (length (now parts) ≡ 256) ⌝ }
+    ensures { λ _. ⌜ Checked (s .tolerance) (now (points .entry)) (now (entries .entry)) (now (starts .entry)) (s .polygons) (now (findings .entry)) (now (parts .entry)) (now (findings .exit)) (now (parts .exit)) ⌝ }
+{
+    let polygons = s.polygons;
+    let tolerance = s.tolerance;
+    let mut p = 0;
+    while p < polygons {
+        refresh(points, entries, starts, findings, parts, tolerance, p);
+        p += 1;
+    }
+}
+
+// No polygon has a stamp.
+fn clear_stamps(stamps: &mut [u32; 256])
+    requires { ⌜ length (now stamps) ≡ 256 ⌝ }
+    ensures { λ _. ⌜ now (stamps .exit) ≡ zeroed (now (stamps .entry)) 256 ⌝ }
+{
+    let mut p = 0;
+    while p < 256 {
+        stamps[p] = 0;
+        p += 1;
+    }
+}
+
+// No polygon stands turned.
+fn clear_turned(turned: &mut [u8; 256])
+    requires { ⌜ length (now turned) ≡ 256 ⌝ }
+    ensures { λ _. ⌜ now (turned .exit) ≡ zeroed (now (turned .entry)) 256 ⌝ }
+{
+    let mut p = 0;
+    while p < 256 {
+        turned[p] = 0;
+        p += 1;
+    }
+}
+
+// Whether a number is one of checks 01 to 03.
+fn is_early(n: u8) -> bool
+    ensures { λ r. ⌜ r ≡ isEarly n ⌝ }
+{
+    (1 <= n) & (n <= 3)
+}
+
+// The lowest of the first n polygons that fails one of checks 01 to 03; n if there is none.
+fn lowest_early(findings: &[u8; 256], n: usize) -> usize
+    requires { ⌜ (n ≤ 256) × (length (now findings) ≡ 256) ⌝ }
+    ensures { λ r. ⌜ EarlyAt (now (findings .entry)) n r ⌝ }
+{
+    let mut i = 0;
+    while i < n {
+        if is_early(findings[i]) {
+            return i;
+        }
+        i += 1;
+    }
+    i
+}
+
+// End of load: "checks the building and holds it with last correction number 0 and all stamps 0". The edges are told of only where
+// every ring passes checks 01 to 03; where one does not, no correction mends it.
+pub fn check_all(
+    points: &[i64; 1536],
+    entries: &[u16; 1024],
+    starts: &[u16; 257],
+    stamps: &mut [u32; 256],
+    findings: &mut [u8; 256],
+    parts: &mut [i64; 256],
+    table: &mut [u64; 1024],
+    turned: &mut [u8; 256],
+    s: Scalars,
+) -> Scalars
+    requires { ⌜ Loaded (now points) (now entries) (now starts) s ⌝ }
+    requires { ⌜ Sizes (arrays (now points) (now entries) (now starts) (now stamps) (now findings) (now parts) (now table) (now turned)) ⌝ }
+    ensures { λ r. ⌜ Did (loaded (heldTables (now (points .entry)) (now (entries .entry)) (now (starts .entry)) s)) (arrays (now (points .entry)) (now (entries .entry)) (now (starts .entry)) (now (stamps .exit)) (now (findings .exit)) (now (parts .exit)) (now (table .exit)) (now (turned .exit))) r ⌝ }
+{
+    check_rings(points, entries, starts, findings, parts, s);
+    clear_stamps(stamps);
+    clear_turned(turned);
+    let n = s.polygons;
+    let early = lowest_early(findings, n);
+    if early < n {
+        return Scalars {
+            tolerance: s.tolerance,
+            points: s.points,
+            polygons: n,
+            last: 0,
+            edges: 0,
+            fixed: Shape::Whole,
+        };
+    }
+    let kept = shell::built(entries, starts, n, table);
+    let fixed = kept.fixed;
+    Scalars {
+        tolerance: s.tolerance,
+        points: s.points,
+        polygons: n,
+        last: 0,
+        edges: kept.count,
         fixed: fixed,
     }
 }
