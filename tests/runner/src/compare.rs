@@ -1,0 +1,182 @@
+//! What is asked of the product on one stream: the oracle's answers, nothing else written, and the laws that hold between streams.
+
+use crate::prng::Dice;
+use crate::product::Subject;
+use oracle::session::{step, State};
+use oracle::stream::lines;
+use oracle::tables::Tables;
+
+/// Bytes before and after the lent room that have to stay as they are.
+const MARGIN: usize = 64;
+
+/// One call: the stream lies between other bytes, the room is filled with a pattern. Gives the number and the room afterwards, or
+/// says which byte that was not lent for writing has changed.
+fn call(subject: Subject, stream: &[u8], room: usize, dice: &mut Dice) -> Result<(i64, Vec<u8>, Vec<u8>), String> {
+    let pattern: Vec<u8> = (0..room.div_ceil(8) + MARGIN).flat_map(|_| dice.next().to_le_bytes()).take(room + 2 * MARGIN).collect();
+    let around = *dice.pick(b"\n0F");
+    let mut lent_stream = vec![around; stream.len() + 2 * MARGIN];
+    lent_stream[MARGIN..MARGIN + stream.len()].copy_from_slice(stream);
+    let before = lent_stream.clone();
+    let mut lent_room = pattern.clone();
+    let number = subject.answer(&lent_stream[MARGIN..MARGIN + stream.len()], &mut lent_room[MARGIN..MARGIN + room]);
+    if lent_stream != before {
+        return Err("the stream was written to".to_string());
+    }
+    if lent_room[..MARGIN] != pattern[..MARGIN] || lent_room[MARGIN + room..] != pattern[MARGIN + room..] {
+        return Err(format!("bytes outside the room of {room} were written to"));
+    }
+    Ok((number, lent_room[MARGIN..MARGIN + room].to_vec(), pattern[MARGIN..MARGIN + room].to_vec()))
+}
+
+/// The call gives exactly what is expected: the number, the answers, and every other byte of the room as it was.
+fn expect(subject: Subject, stream: &[u8], room: usize, expected: &Result<Vec<u8>, i64>, dice: &mut Dice) -> Result<(), String> {
+    let (number, after, pattern) = call(subject, stream, room, dice)?;
+    let (wanted_number, answers): (i64, &[u8]) = match expected {
+        Ok(answers) => (answers.len() as i64, answers),
+        Err(number) => (*number, &[]),
+    };
+    if number != wanted_number {
+        return Err(format!("room {room}: returned {number}, expected {wanted_number}\n{}", line_by_line(stream, &after, answers)));
+    }
+    if after[..answers.len()] != *answers {
+        return Err(format!("room {room}: another answer\n{}", line_by_line(stream, &after, answers)));
+    }
+    match (answers.len()..room).find(|&at| after[at] != pattern[at]) {
+        Some(at) => Err(format!("room {room}: byte {at} was written to, the answers being {} bytes", answers.len())),
+        None => Ok(()),
+    }
+}
+
+/// The first line on which two answers differ.
+fn line_by_line(stream: &[u8], given: &[u8], expected: &[u8]) -> String {
+    let show = |bytes: Option<&&[u8]>| bytes.map_or("nothing".to_string(), |line| line.escape_ascii().to_string());
+    let (stream, given, expected) = (lines(stream), lines(given), lines(expected));
+    for at in 0..stream.len() {
+        if given.get(at) != expected.get(at) {
+            let (frame, got, wanted) = (show(stream.get(at)), show(given.get(at)), show(expected.get(at)));
+            return format!("  line {}: {frame}\n  given:    {got}\n  expected: {wanted}", at + 1);
+        }
+    }
+    "  no line differs".to_string()
+}
+
+/// The oracle's answer in a room that is long enough.
+fn expected(stream: &[u8]) -> Result<Vec<u8>, i64> {
+    let mut room = vec![0; 33 * 1_024];
+    match oracle::answer(stream, &mut room) {
+        number if number < 0 => Err(number),
+        length => {
+            room.truncate(length as usize);
+            Ok(room)
+        }
+    }
+}
+
+/// All comparisons on one stream.
+pub fn judge(subject: Subject, stream: &[u8], dice: &mut Dice) -> Result<(), String> {
+    let expected = expected(stream);
+    let exact = 33 * lines(stream).len();
+    expect(subject, stream, exact, &expected, dice)?;
+    let larger = exact + 1 + dice.below(100);
+    expect(subject, stream, larger, &expected, dice)?;
+    if exact > 0 {
+        let short = expected.as_ref().err().copied().unwrap_or(-3);
+        for room in [exact - 1, dice.below(exact), 0] {
+            expect(subject, stream, room, &Err(short), dice)?;
+        }
+    }
+    let Ok(answers) = expected else { return Ok(()) };
+    last_line_feed(subject, stream, &answers, dice)?;
+    struck_out(subject, stream, &answers, dice)?;
+    fresh_loads(subject, stream, dice)
+}
+
+/// "text after the last line feed, if there is any, is a line too": without its last line feed the stream says the same.
+fn last_line_feed(subject: Subject, stream: &[u8], answers: &[u8], dice: &mut Dice) -> Result<(), String> {
+    match stream.split_last() {
+        Some((b'\n', shorter)) if shorter.last().is_some_and(|&byte| byte != b'\n') => {
+            let room = 33 * lines(shorter).len();
+            expect(subject, shorter, room, &Ok(answers.to_vec()), dice).map_err(|why| format!("without the last line feed: {why}"))
+        }
+        _ => Ok(()),
+    }
+}
+
+/// "Refused: [...] nothing held changes": with the refused lines struck out the other answers stay.
+fn struck_out(subject: Subject, stream: &[u8], answers: &[u8], dice: &mut Dice) -> Result<(), String> {
+    let pairs: Vec<(&[u8], &[u8])> = lines(stream).into_iter().zip(lines(answers)).collect();
+    let kept: Vec<(&[u8], &[u8])> = pairs.iter().filter(|(_, answer)| answer.starts_with(b"00")).copied().collect();
+    if kept.len() == pairs.len() {
+        return Ok(());
+    }
+    let put = |part: fn(&(&[u8], &[u8])) -> Vec<u8>| -> Vec<u8> {
+        kept.iter().flat_map(|pair| part(pair).into_iter().chain([b'\n'])).collect()
+    };
+    let (stream, answers) = (put(|pair| pair.0.to_vec()), put(|pair| pair.1.to_vec()));
+    expect(subject, &stream, 33 * kept.len(), &Ok(answers), dice).map_err(|why| format!("refused lines struck out: {why}"))
+}
+
+/// The frames that load these tables.
+fn load_frames(tables: &Tables) -> String {
+    let mut frames = format!("01{:04X}\n", tables.tolerance);
+    for place in &tables.points {
+        frames += &format!("02{:08X}{:08X}{:08X}\n", place.x as i32, place.y as i32, place.z as i32);
+    }
+    for ring in &tables.polygons {
+        frames += "03";
+        ring.iter().for_each(|entry| frames += &format!("{entry:04X}"));
+        frames += "\n";
+    }
+    frames + "04\n"
+}
+
+/// Demand 3: the report after an accepted correction is the one that a fresh load of the corrected tables gives, and so are finding
+/// and part of a polygon. On long histories some of the corrections are taken.
+fn fresh_loads(subject: Subject, stream: &[u8], dice: &mut Dice) -> Result<(), String> {
+    let mut state = State::Nothing;
+    let all = lines(stream);
+    let some = 1 + all.len() / 12;
+    for (at, line) in all.iter().enumerate() {
+        let answer = step(&mut state, line);
+        let correction = line.starts_with(b"05") || line.starts_with(b"06");
+        if !correction || !answer.starts_with("00") || !dice.once_in(some) {
+            continue;
+        }
+        let tables = state.tables();
+        let polygon = dice.below(tables.polygons.len());
+        let stream = load_frames(&tables) + &format!("07{polygon:04X}\n");
+        let asked = step(&mut state.clone(), format!("07{polygon:04X}").as_bytes());
+        // A fresh load has all stamps 0.
+        let asked = if asked.len() > 12 { format!("{}00000000{}", &asked[..4], &asked[12..]) } else { asked };
+        let loads = 1 + tables.points.len() + tables.polygons.len();
+        let answers = "00\n".repeat(loads) + &answer + "\n" + &asked + "\n";
+        let room = 33 * (loads + 2);
+        expect(subject, stream.as_bytes(), room, &Ok(answers.into_bytes()), dice)
+            .map_err(|why| format!("fresh load of the tables after line {}: {why}", at + 1))?;
+    }
+    Ok(())
+}
+
+/// The stream with as many lines dropped as leave some comparison failing.
+pub fn shrink(stream: &[u8], fails: impl Fn(&[u8]) -> bool) -> Vec<u8> {
+    let put = |lines: &[Vec<u8>]| -> Vec<u8> { lines.iter().flat_map(|line| line.iter().copied().chain([b'\n'])).collect() };
+    let mut kept: Vec<Vec<u8>> = lines(stream).into_iter().map(<[u8]>::to_vec).collect();
+    if !fails(&put(&kept)) {
+        return stream.to_vec();
+    }
+    let mut piece = kept.len().div_ceil(2);
+    while piece > 0 {
+        let mut at = 0;
+        while at < kept.len() {
+            let mut fewer = kept.clone();
+            fewer.drain(at..(at + piece).min(kept.len()));
+            if fails(&put(&fewer)) {
+                kept = fewer;
+            } else {
+                at += piece;
+            }
+        }
+        piece = if piece == 1 { 0 } else { piece.div_ceil(2) };
+    }
+    put(&kept)
+}
