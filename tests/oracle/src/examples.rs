@@ -145,7 +145,8 @@ fn ring_lengths_at_the_bound() {
 
 #[test]
 fn the_last_correction_number() {
-    let corrections = "06FFFFFFFE0000\n05FFFFFFFF0000000000000000000000000000\n06FFFFFFFF0000\n0600000001FFFF\n06000000000000\n070000\n070003\n";
+    let corrections =
+        "06FFFFFFFE0000\n05FFFFFFFF0000000000000000000000000000\n06FFFFFFFF0000\n0600000001FFFF\n06000000000000\n070000\n070003\n";
     let asked = ask(&(TETRAHEDRON.to_string() + corrections));
     let report = "000A00000001000000000000";
     assert_eq!(asked[10], format!("{report}3B9ACA00"));

@@ -59,11 +59,9 @@ pub fn decode(line: &[u8]) -> Option<Frame> {
             Some(Frame::Polygon { entries: fields.chunks(4).map(element).collect() })
         }
         (4, 2) => Some(Frame::End),
-        (5, 38) => Some(Frame::Move {
-            number: unsigned(&fields[0..8]),
-            point: element(&fields[8..12]),
-            place: place(&fields[12..36]),
-        }),
+        (5, 38) => {
+            Some(Frame::Move { number: unsigned(&fields[0..8]), point: element(&fields[8..12]), place: place(&fields[12..36]) })
+        }
         (6, 14) => Some(Frame::Turn { number: unsigned(&fields[0..8]), polygon: element(&fields[8..12]) }),
         (7, 6) => Some(Frame::Question { polygon: element(fields) }),
         _ => None,

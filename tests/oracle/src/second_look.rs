@@ -157,10 +157,7 @@ fn fails_05_again(places: &[Place]) -> bool {
     (0..count).any(|i| {
         (0..count).any(|j| {
             let apart = (i + count - j) % count;
-            apart != 0
-                && apart != 1
-                && apart != count - 1
-                && common(flat[i], flat[i + 1], flat[j], flat[j + 1]) != Common::Nothing
+            apart != 0 && apart != 1 && apart != count - 1 && common(flat[i], flat[i + 1], flat[j], flat[j + 1]) != Common::Nothing
         })
     })
 }
@@ -226,11 +223,7 @@ fn the_normal_and_the_part_again() {
         places.push(places[0]);
         let newell = places.windows(2).fold(ORIGIN, |sum, two| {
             let (p, q) = (two[0], two[1]);
-            sum.plus(Place {
-                x: (p.y - q.y) * (p.z + q.z),
-                y: (p.z - q.z) * (p.x + q.x),
-                z: (p.x - q.x) * (p.y + q.y),
-            })
+            sum.plus(Place { x: (p.y - q.y) * (p.z + q.z), y: (p.z - q.z) * (p.x + q.x), z: (p.x - q.x) * (p.y + q.y) })
         });
         assert_eq!(normal(&places), newell);
     }

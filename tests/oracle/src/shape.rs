@@ -42,7 +42,7 @@ pub fn failure(tables: &Tables) -> Option<Failure> {
 
 /// "fewer than 4 polygons | a = their count"
 pub fn fails_07(tables: &Tables) -> Option<Failure> {
-    (tables.polygons.len() < 4).then(|| (0x07, tables.polygons.len(), 0))
+    (tables.polygons.len() < 4).then_some((0x07, tables.polygons.len(), 0))
 }
 
 /// "the edge reported is the one with least a, then least b."
@@ -102,8 +102,7 @@ pub fn fails_0c(tables: &Tables) -> Option<Failure> {
 
 /// Whether the polygons at a point are all linked across edges that end at it (so too where no polygon is).
 pub fn linked_at(edges: &BTreeMap<Edge, Vec<Use>>, tables: &Tables, point: usize) -> bool {
-    let there: Vec<usize> =
-        (0..tables.polygons.len()).filter(|&polygon| tables.polygons[polygon].contains(&point)).collect();
+    let there: Vec<usize> = (0..tables.polygons.len()).filter(|&polygon| tables.polygons[polygon].contains(&point)).collect();
     let Some(&first) = there.first() else { return true };
     let ends_here: BTreeMap<Edge, Vec<Use>> =
         edges.iter().filter(|((a, b), _)| *a == point || *b == point).map(|(edge, uses)| (*edge, uses.clone())).collect();

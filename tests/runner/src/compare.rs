@@ -104,15 +104,13 @@ fn last_line_feed(subject: Subject, stream: &[u8], answers: &[u8], dice: &mut Di
 
 /// "Refused: [...] nothing held changes": with the refused lines struck out the other answers stay.
 fn struck_out(subject: Subject, stream: &[u8], answers: &[u8], dice: &mut Dice) -> Result<(), String> {
-    let pairs: Vec<(&[u8], &[u8])> = lines(stream).into_iter().zip(lines(answers)).collect();
-    let kept: Vec<(&[u8], &[u8])> = pairs.iter().filter(|(_, answer)| answer.starts_with(b"00")).copied().collect();
-    if kept.len() == pairs.len() {
+    let (frames, answered) = (lines(stream), lines(answers));
+    let kept: Vec<usize> = (0..frames.len()).filter(|&at| answered[at].starts_with(b"00")).collect();
+    if kept.len() == frames.len() {
         return Ok(());
     }
-    let put = |part: fn(&(&[u8], &[u8])) -> Vec<u8>| -> Vec<u8> {
-        kept.iter().flat_map(|pair| part(pair).into_iter().chain([b'\n'])).collect()
-    };
-    let (stream, answers) = (put(|pair| pair.0.to_vec()), put(|pair| pair.1.to_vec()));
+    let put = |from: &[&[u8]]| -> Vec<u8> { kept.iter().flat_map(|&at| [from[at], b"\n"].concat()).collect() };
+    let (stream, answers) = (put(&frames), put(&answered));
     expect(subject, &stream, 33 * kept.len(), &Ok(answers), dice).map_err(|why| format!("refused lines struck out: {why}"))
 }
 

@@ -199,8 +199,13 @@ fn ring_faults(dice: &mut Dice) -> Vec<u8> {
 
 fn shape_faults(dice: &mut Dice) -> Vec<u8> {
     let mut script = Script::default();
-    let mut solid = solids::small(dice);
-    for _ in 0..1 + dice.below(2) {
+    let mut solid = match dice.below(8) {
+        0 => solids::one_sided(dice),
+        1 => solids::triangles(dice),
+        2 => solids::flattened(dice),
+        _ => solids::small(dice),
+    };
+    for _ in 0..dice.below(3) {
         shape_fault(dice, &mut solid);
     }
     disguise(dice, &mut solid);
@@ -234,8 +239,10 @@ fn cells_and_pinches(dice: &mut Dice) -> Vec<u8> {
     if dice.once_in(4) {
         let n = 3 + dice.below(3);
         let mut apart = solids::pyramid(&solids::outline(dice, n), [1, 1, 3]);
-        apart.each_point(|p| [p[0] + 2_000, p[1], p[2]]);
-        solid.join(&apart);
+        for _ in 0..1 + dice.below(3) {
+            apart.each_point(|p| [p[0] + 2_000, p[1], p[2]]);
+            solid.join(&apart);
+        }
     }
     disguise(dice, &mut solid);
     script.load(tolerance(dice), &solid, dice);
@@ -438,7 +445,8 @@ fn awkward(dice: &mut Dice, script: &mut Script, solid: &Solid, last: u32) {
         11 => script.begin(*dice.pick(&[1_001, 0xFFFF, 0x8000])),
         12 if dice.once_in(4) => script.end(),
         _ => {
-            let broken: &[&str] = &["", "04 ", "040", "4", "00", "08", "07000g", "070", "0100", "02", "0300", "030000000", "06", "05", "FF"];
+            let broken: &[&str] =
+                &["", "04 ", "040", "4", "00", "08", "07000g", "070", "0100", "02", "0300", "030000000", "06", "05", "FF"];
             script.raw(dice.pick(broken));
         }
     }
@@ -550,7 +558,7 @@ fn table_bounds(dice: &mut Dice) -> Vec<u8> {
     match dice.below(4) {
         0 => {
             many_points(&mut script, 511 + dice.below(3));
-            for _ in 0..1 + dice.below(3) {
+            for _ in 0..2 + dice.below(4) {
                 match dice.below(4) {
                     0 => script.point([100_001, 0, 0]),
                     1 => script.point([0, 0, 0]),
@@ -693,7 +701,7 @@ fn largest_numbers(dice: &mut Dice) -> Vec<u8> {
     let mut script = Script::default();
     let far: i64 = 100_000;
     let mut solid = Solid::default();
-    for k in 0..128 {
+    for k in 0..344 {
         let sign = |bit: i64| if k >> bit & 1 == 0 { far } else { -far };
         let inward = k / 8;
         let point = [sign(0), sign(1), sign(2)];
@@ -710,20 +718,18 @@ fn largest_numbers(dice: &mut Dice) -> Vec<u8> {
         }
         1 => {
             // The largest normals without a repeated number: the same, each time a little further in.
-            let mut ring: Vec<usize> = (0..40).map(|k| around[k % 3] + 8 * (k / 3)).collect();
+            let mut ring: Vec<usize> = (0..*dice.pick(&[126, 39, 20, 7])).map(|k| around[k % 3] + 8 * (k / 3)).collect();
             ring.push(*dice.pick(&[corner(1, 1, 1), corner(-1, -1, -1)]));
-            ring.truncate(*dice.pick(&[41, 40, 20, 7]));
             solid.rings = vec![closed(&ring); 1 + dice.below(4)];
         }
         2 => {
-            let mut all: Vec<usize> = (0..128).collect();
+            let mut all: Vec<usize> = (0..solid.points.len()).collect();
             dice.shuffle(&mut all);
             solid.rings.push(closed(&all[..127]));
             solid.rings.push(closed(&all[60..70]));
             solid.rings.push(closed(&all[..4]));
         }
         _ => {
-            solid.points.truncate(8);
             let mut around_cube = solids::cuboid(2, 2, 2);
             around_cube.each_point(|p| [(p[0] - 1) * far, (p[1] - 1) * far, (p[2] - 1) * far]);
             solid = around_cube;

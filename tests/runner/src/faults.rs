@@ -2,6 +2,7 @@
 
 use crate::prng::Dice;
 use crate::solids::{closed, Solid, P};
+use std::collections::BTreeSet;
 
 /// One ring of the solid gets a fault that one of checks 01 to 06 is about.
 pub fn ring_fault(dice: &mut Dice, solid: &mut Solid) {
@@ -113,14 +114,20 @@ pub fn shape_fault(dice: &mut Dice, solid: &mut Solid) {
     }
 }
 
-/// Two points become one, in every ring; those of one polygon are left as they are.
+/// Two points become one, in every ring: two that have no neighbour in common if some are found, so that no edge is used more often.
 pub fn pinch(dice: &mut Dice, solid: &mut Solid) {
-    for _ in 0..8 {
-        let (kept, gone) = (dice.below(solid.points.len()), dice.below(solid.points.len()));
-        let together = |ring: &Vec<usize>| ring.contains(&kept) && ring.contains(&gone);
-        if kept != gone && !solid.rings.iter().any(together) {
-            solid.rings.iter_mut().flatten().filter(|entry| **entry == gone).for_each(|entry| *entry = kept);
-            return;
+    let around = |solid: &Solid, point: usize| -> BTreeSet<usize> {
+        solid.rings.iter().filter(|ring| ring.contains(&point)).flatten().copied().collect()
+    };
+    for strict in [true, false] {
+        for _ in 0..20 {
+            let (kept, gone) = (dice.below(solid.points.len()), dice.below(solid.points.len()));
+            let (near, far) = (around(solid, kept), around(solid, gone));
+            let apart = if strict { near.is_disjoint(&far) } else { !near.contains(&gone) };
+            if kept != gone && apart && !far.is_empty() {
+                solid.rings.iter_mut().flatten().filter(|entry| **entry == gone).for_each(|entry| *entry = kept);
+                return;
+            }
         }
     }
 }

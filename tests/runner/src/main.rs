@@ -33,9 +33,8 @@ fn asked() -> Asked {
     let mut asked = Asked { subject: Subject::Product, count: 20_000, seed: 1, one: None, at: None };
     let mut plain = Vec::new();
     let mut words = std::env::args().skip(1);
-    let number = |word: Option<String>| -> u64 {
-        word.and_then(|word| word.parse().ok()).unwrap_or_else(|| usage("a number is missing"))
-    };
+    let number =
+        |word: Option<String>| -> u64 { word.and_then(|word| word.parse().ok()).unwrap_or_else(|| usage("a number is missing")) };
     while let Some(word) = words.next() {
         match word.as_str() {
             "--self-check" => asked.subject = Subject::Oracle,
@@ -78,11 +77,8 @@ fn tell_failure(asked: &Asked, index: u64, stream: &[u8], why: &str) {
 /// One stream, shown with the oracle's answers.
 fn show_one(asked: &Asked, index: u64) {
     let stream = stream(asked.seed, index);
-    let answers = if oracle::stream::whole_stream_refusal(&stream, usize::MAX).is_none() {
-        oracle::stream::answers(&stream)
-    } else {
-        vec![]
-    };
+    let answers =
+        if oracle::stream::whole_stream_refusal(&stream, usize::MAX).is_none() { oracle::stream::answers(&stream) } else { vec![] };
     println!("seed {} stream {index} ({}), {} bytes", asked.seed, FAMILIES[family_of(index)].name, stream.len());
     for (at, line) in oracle::stream::lines(&stream).iter().enumerate() {
         println!("{:>5} {}\n      -> {}", at + 1, line.escape_ascii(), answers.get(at).map_or("", String::as_str));

@@ -23,9 +23,7 @@ impl Subject {
             Subject::Oracle => oracle::answer(stream, room),
             #[cfg(product)]
             // SAFETY: both pointers come from slices of the lengths given, which outlive the call and do not overlap.
-            Subject::Product => unsafe {
-                archive::checker_answer(stream.as_ptr(), stream.len(), room.as_mut_ptr(), room.len())
-            },
+            Subject::Product => unsafe { archive::checker_answer(stream.as_ptr(), stream.len(), room.as_mut_ptr(), room.len()) },
             #[cfg(not(product))]
             Subject::Product => unreachable!("built without the product's archive"),
         }

@@ -12,36 +12,87 @@ use std::collections::{BTreeMap, BTreeSet};
 #[derive(Default)]
 pub struct Reach {
     counts: BTreeMap<String, u64>,
+    largest: BTreeMap<&'static str, i128>,
 }
 
 /// Pairs of refusals that can apply at once, the one that is given first. A place beyond the bounds is no point's, so 03 and 06
 /// never do; 07 and 04 belong to different kinds of frames.
-const PAIRS: &[(u8, u8)] = &[
-    (1, 2), (2, 7), (2, 5), (2, 3), (2, 4), (2, 6), (7, 5), (7, 3), (7, 6), (5, 3), (5, 4), (5, 6), (3, 4), (4, 6),
-];
+const PAIRS: &[(u8, u8)] =
+    &[(1, 2), (2, 7), (2, 5), (2, 3), (2, 4), (2, 6), (7, 5), (7, 3), (7, 6), (5, 3), (5, 4), (5, 6), (3, 4), (4, 6)];
 
 const BOUNDS: &[&str] = &[
-    "stream of 65,535 bytes", "stream of 65,536 bytes", "stream of 1,024 lines", "stream of 1,025 lines", "empty stream",
-    "stream without last line feed", "point 512 accepted", "point 513 refused", "polygon 256 accepted", "polygon 257 refused",
-    "polygon 257, empty, refused", "1,024 entries in all accepted", "more than 1,024 entries in all refused",
-    "empty polygon accepted at 1,024 entries", "ring of 128 accepted", "ring of 129 refused 01", "coordinate 100,000 accepted",
-    "coordinate -100,000 accepted", "coordinate 100,001 refused", "coordinate -100,001 refused", "tolerance 1,000 accepted",
-    "tolerance 1,001 refused", "correction number FFFFFFFF accepted", "correction late after FFFFFFFF",
+    "stream of 65,535 bytes",
+    "stream of 65,536 bytes",
+    "stream of 1,024 lines",
+    "stream of 1,025 lines",
+    "empty stream",
+    "stream without last line feed",
+    "point 512 accepted",
+    "point 513 refused",
+    "polygon 256 accepted",
+    "polygon 257 refused",
+    "polygon 257, empty, refused",
+    "1,024 entries in all accepted",
+    "more than 1,024 entries in all refused",
+    "empty polygon accepted at 1,024 entries",
+    "ring of 128 accepted",
+    "ring of 129 refused 01",
+    "coordinate 100,000 accepted",
+    "coordinate -100,000 accepted",
+    "coordinate 100,001 refused",
+    "coordinate -100,001 refused",
+    "tolerance 1,000 accepted",
+    "tolerance 1,001 refused",
+    "correction number FFFFFFFF accepted",
+    "correction late after FFFFFFFF",
 ];
 
 const RINGS: &[&str] = &[
-    "plane without x", "plane without y", "plane without z", "tie of x and y", "tie of x and z", "tie of y and z", "tie of all three",
-    "signed choice of the axis would differ", "edge that falls to one place in the plane", "straight corner passes",
-    "05 fails by a touch, nothing crossing", "05 fails by edges along each other", "05 passes with edges on one line apart",
-    "06 passes exactly at the tolerance", "06 fails by less than a step of the tolerance", "ring of 3 entries with a part",
+    "plane without x",
+    "plane without y",
+    "plane without z",
+    "tie of x and y",
+    "tie of x and z",
+    "tie of y and z",
+    "tie of all three",
+    "signed choice of the axis would differ",
+    "edge that falls to one place in the plane",
+    "straight corner passes",
+    "05 fails by a touch, nothing crossing",
+    "05 fails by edges along each other",
+    "05 passes with edges on one line apart",
+    "06 passes exactly at the tolerance",
+    "06 fails by less than a step of the tolerance",
+    "ring of 3 entries with a part",
 ];
 
 const HISTORIES: &[&str] = &[
-    "move to the own place", "move to a place that was left", "place taken by a point in no ring", "number used again after a refusal",
-    "open ring turned", "open ring turned, part not negated", "turned and turned back", "a correction heals", "a correction breaks",
-    "a stamp from a move, 2 or more polygons", "a stamp on a polygon with a finding", "begin while held", "begin while loading",
-    "begin refused 03 while held", "begin refused 03 while loading", "begin refused 03 at the start", "0B, polygon 0 in the smaller piece",
-    "0C at a point of edges used twice", "number above 7FFFFFFF", "a late number above a refused one",
+    "move to the own place",
+    "move to a place that was left",
+    "place taken by a point in no ring",
+    "number used again after a refusal",
+    "open ring turned",
+    "open ring turned, part not negated",
+    "turned and turned back",
+    "a correction heals",
+    "a correction breaks",
+    "a stamp from a move, 2 or more polygons",
+    "a stamp on a polygon with a finding",
+    "begin while held",
+    "begin while loading",
+    "begin refused 03 while held",
+    "begin refused 03 while loading",
+    "begin refused 03 at the start",
+    "0B, polygon 0 in the smaller piece",
+    "0B, three pieces or more",
+    "0C, two points or more",
+    "08, several edges",
+    "09, several edges",
+    "0A, several edges",
+    "0D with six-volume 0",
+    "0D with a negative six-volume",
+    "number above 7FFFFFFF",
+    "a late number above a refused one",
 ];
 
 /// Everything that must be reached.
@@ -77,6 +128,11 @@ fn required() -> Vec<String> {
 impl Reach {
     fn count(&mut self, name: impl Into<String>) {
         *self.counts.entry(name.into()).or_insert(0) += 1;
+    }
+
+    fn size(&mut self, name: &'static str, value: i128) {
+        let largest = self.largest.entry(name).or_insert(0);
+        *largest = value.abs().max(*largest);
     }
 
     fn count_if(&mut self, holds: bool, name: &str) {
@@ -195,6 +251,7 @@ impl Reach {
     /// Which checks fail, the one reported and those behind it.
     fn report(&mut self, tables: &Tables) {
         let given = report(tables);
+        self.size("six-volume", given.six_volume);
         self.count(format!("check {:02X} reported", given.check));
         if given.check == 0 {
             return;
@@ -206,11 +263,31 @@ impl Reach {
         for check in of_rings.union(&of_shape).filter(|&&check| check != given.check) {
             self.count(format!("check {check:02X} behind another"));
         }
-        if given.check == 0x0B {
-            let reached = shape::reachable(&shape::edges(tables), 0).len();
-            self.count_if(2 * reached < tables.polygons.len(), "0B, polygon 0 in the smaller piece");
+        self.several(tables, given.check);
+        self.count_if(given.check == 0x0D && given.six_volume == 0, "0D with six-volume 0");
+        self.count_if(given.check == 0x0D && given.six_volume < 0, "0D with a negative six-volume");
+    }
+
+    /// Where more than one edge, piece or point could be named.
+    fn several(&mut self, tables: &Tables, check: u8) {
+        let edges = shape::edges(tables);
+        let many = |fails: fn(&Vec<shape::Use>) -> bool| edges.values().filter(|uses| fails(uses)).count() > 1;
+        match check {
+            0x08 => self.count_if(many(|uses| uses.len() == 1), "08, several edges"),
+            0x09 => self.count_if(many(|uses| uses.len() > 2), "09, several edges"),
+            0x0A => self.count_if(many(|uses| uses.len() == 2 && uses[0].upward == uses[1].upward), "0A, several edges"),
+            0x0B => {
+                let (first, all) = (shape::reachable(&edges, 0), tables.polygons.len());
+                self.count_if(2 * first.len() < all, "0B, polygon 0 in the smaller piece");
+                let next = (0..all).find(|polygon| !first.contains(polygon)).expect("one is not reached");
+                self.count_if(first.len() + shape::reachable(&edges, next).len() < all, "0B, three pieces or more");
+            }
+            0x0C => {
+                let pinched = (0..tables.points.len()).filter(|&point| !shape::linked_at(&edges, tables, point)).count();
+                self.count_if(pinched > 1, "0C, two points or more");
+            }
+            _ => {}
         }
-        self.count_if(given.check == 0x0C, "0C at a point of edges used twice");
     }
 
     /// What the rings of a fresh load show of checks 04 to 06.
@@ -228,6 +305,7 @@ impl Reach {
     fn ring(&mut self, places: &[Place], tolerance: i128, finding: u8) {
         let n = ring::normal(places);
         let largest = ring::largest_size(n);
+        self.size("component of N", largest);
         let at = [n.x, n.y, n.z].map(|component| component.abs() == largest);
         let axis = at.iter().position(|&here| here).expect("some component is largest");
         self.count(["plane without x", "plane without y", "plane without z"][axis]);
@@ -244,6 +322,7 @@ impl Reach {
         let flat: Vec<ring::Flat> = places.iter().map(|&place| ring::drop_axis(n, place)).collect();
         self.meetings(&flat, finding);
         let farthest = places.iter().map(|place| n.dot(place.minus(places[0])).abs()).max().unwrap_or(0);
+        self.size("N·(p - first)", farthest);
         self.count_if(finding == 0 && farthest > 0 && farthest == tolerance * largest, "06 passes exactly at the tolerance");
         self.count_if(finding == 6 && farthest < (tolerance + 1) * largest, "06 fails by less than a step of the tolerance");
     }
@@ -338,6 +417,9 @@ impl Reach {
         println!("reached beside these:");
         for (name, count) in self.counts.iter().filter(|(name, _)| !required.contains(name)) {
             println!("  {count:>9}  {name}");
+        }
+        for (name, size) in &self.largest {
+            println!("  largest size of {name}: {size}");
         }
         required.into_iter().filter(|name| !self.counts.contains_key(name)).collect()
     }

@@ -61,7 +61,16 @@ pub fn l_prism() -> Solid {
 pub fn house() -> Solid {
     Solid {
         points: vec![
-            [0, 0, 0], [8, 0, 0], [8, 10, 0], [0, 10, 0], [0, 0, 5], [8, 0, 5], [8, 10, 5], [0, 10, 5], [4, 0, 9], [4, 10, 9],
+            [0, 0, 0],
+            [8, 0, 0],
+            [8, 10, 0],
+            [0, 10, 0],
+            [0, 0, 5],
+            [8, 0, 5],
+            [8, 10, 5],
+            [0, 10, 5],
+            [4, 0, 9],
+            [4, 10, 9],
         ],
         rings: vec![
             closed(&[0, 3, 2, 1]),
@@ -150,8 +159,7 @@ pub fn cells(set: &BTreeSet<P>) -> Solid {
 
 /// A horseshoe of cells whose ends touch at one point and which hangs together across edges.
 pub fn horseshoe() -> Solid {
-    let path =
-        [[0, 0, 0], [0, -1, 0], [0, -1, 1], [0, -1, 2], [1, -1, 2], [1, 0, 2], [1, 1, 2], [1, 1, 1]];
+    let path = [[0, 0, 0], [0, -1, 0], [0, -1, 1], [0, -1, 2], [1, -1, 2], [1, 0, 2], [1, 1, 2], [1, 1, 1]];
     cells(&path.into_iter().collect())
 }
 
@@ -280,6 +288,33 @@ impl Solid {
         };
         self.rings = self.rings.iter().flat_map(cut).collect();
     }
+}
+
+/// Ten triangles over six points, every edge used twice, that no turning makes agree in direction (the projective plane).
+pub fn one_sided(dice: &mut Dice) -> Solid {
+    let corners = [[0, 1, 2], [0, 2, 3], [0, 3, 4], [0, 4, 5], [0, 5, 1], [1, 2, 4], [2, 3, 5], [3, 4, 1], [4, 5, 2], [5, 1, 3]];
+    let points = (0..6).map(|k| [k, k * k, k * k * k + dice.between(0, 9)]).collect();
+    Solid { points, rings: corners.iter().map(|each| closed(each)).collect() }
+}
+
+/// Triangles at random over a few points, none of them on one line: edges used once, twice and more.
+pub fn triangles(dice: &mut Dice) -> Solid {
+    let count = 4 + dice.below(4);
+    let points: Vec<P> = (0..count as i64).map(|k| [k, k * k, k * k * k]).collect();
+    let mut numbers: Vec<usize> = (0..count).collect();
+    let mut rings = Vec::new();
+    for _ in 0..4 + dice.below(8) {
+        dice.shuffle(&mut numbers);
+        rings.push(closed(&numbers[..3]));
+    }
+    Solid { points, rings }
+}
+
+/// A solid squeezed flat, its triangles still triangles: six-volume 0.
+pub fn flattened(dice: &mut Dice) -> Solid {
+    let mut solid = tetrahedron();
+    solid.points = vec![[0, 0, 0], [4, 0, 0], [0, 4, 0], [dice.between(1, 9), dice.between(1, 9), 0]];
+    solid
 }
 
 /// A small valid solid.
