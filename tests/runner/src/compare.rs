@@ -6,31 +6,40 @@ use oracle::session::{step, State};
 use oracle::stream::lines;
 use oracle::tables::Tables;
 
-/// Bytes before and after the lent room that have to stay as they are.
+/// At least so many bytes before and after the lent room have to stay as they are.
 const MARGIN: usize = 64;
 
-/// One call: the stream lies between other bytes, the room is filled with a pattern. Gives the number and the room afterwards, or
-/// says which byte that was not lent for writing has changed.
-fn call(subject: Subject, stream: &[u8], room: usize, dice: &mut Dice) -> Result<(i64, Vec<u8>, Vec<u8>), String> {
-    let pattern: Vec<u8> = (0..room.div_ceil(8) + MARGIN).flat_map(|_| dice.next().to_le_bytes()).take(room + 2 * MARGIN).collect();
+/// What a call left behind: its number, the room, and the pattern that the room was filled with.
+struct Left {
+    number: i64,
+    room: Vec<u8>,
+    pattern: Vec<u8>,
+}
+
+/// One call: the stream lies between other bytes, the room is filled with a pattern, both start at any address. Fails if a byte was
+/// changed that was not lent for writing.
+fn call(subject: Subject, stream: &[u8], room: usize, dice: &mut Dice) -> Result<Left, String> {
+    let (from, start) = (MARGIN + dice.below(16), MARGIN + dice.below(16));
     let around = *dice.pick(b"\n0F");
-    let mut lent_stream = vec![around; stream.len() + 2 * MARGIN];
-    lent_stream[MARGIN..MARGIN + stream.len()].copy_from_slice(stream);
-    let before = lent_stream.clone();
-    let mut lent_room = pattern.clone();
-    let number = subject.answer(&lent_stream[MARGIN..MARGIN + stream.len()], &mut lent_room[MARGIN..MARGIN + room]);
-    if lent_stream != before {
+    let mut lent_stream = vec![around; from + stream.len() + MARGIN];
+    lent_stream[from..from + stream.len()].copy_from_slice(stream);
+    let stream_before = lent_stream.clone();
+    let words = (start + room + MARGIN).div_ceil(8);
+    let room_before: Vec<u8> = (0..words).flat_map(|_| dice.next().to_le_bytes()).collect();
+    let mut lent_room = room_before.clone();
+    let number = subject.answer(&lent_stream[from..from + stream.len()], &mut lent_room[start..start + room]);
+    if lent_stream != stream_before {
         return Err("the stream was written to".to_string());
     }
-    if lent_room[..MARGIN] != pattern[..MARGIN] || lent_room[MARGIN + room..] != pattern[MARGIN + room..] {
+    if lent_room[..start] != room_before[..start] || lent_room[start + room..] != room_before[start + room..] {
         return Err(format!("bytes outside the room of {room} were written to"));
     }
-    Ok((number, lent_room[MARGIN..MARGIN + room].to_vec(), pattern[MARGIN..MARGIN + room].to_vec()))
+    Ok(Left { number, room: lent_room[start..start + room].to_vec(), pattern: room_before[start..start + room].to_vec() })
 }
 
 /// The call gives exactly what is expected: the number, the answers, and every other byte of the room as it was.
 fn expect(subject: Subject, stream: &[u8], room: usize, expected: &Result<Vec<u8>, i64>, dice: &mut Dice) -> Result<(), String> {
-    let (number, after, pattern) = call(subject, stream, room, dice)?;
+    let Left { number, room: after, pattern } = call(subject, stream, room, dice)?;
     let (wanted_number, answers): (i64, &[u8]) = match expected {
         Ok(answers) => (answers.len() as i64, answers),
         Err(number) => (*number, &[]),
@@ -77,7 +86,7 @@ pub fn judge(subject: Subject, stream: &[u8], dice: &mut Dice) -> Result<(), Str
     let expected = expected(stream);
     let exact = 33 * lines(stream).len();
     expect(subject, stream, exact, &expected, dice)?;
-    let larger = exact + 1 + dice.below(100);
+    let larger = exact + if dice.once_in(64) { 100_000 } else { 1 + dice.below(100) };
     expect(subject, stream, larger, &expected, dice)?;
     if exact > 0 {
         let short = expected.as_ref().err().copied().unwrap_or(-3);
