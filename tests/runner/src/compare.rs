@@ -3,7 +3,7 @@
 use crate::prng::Dice;
 use crate::product::Subject;
 use oracle::session::{step, State};
-use oracle::stream::lines;
+use oracle::stream::{lines, whole_stream_refusal};
 use oracle::tables::Tables;
 
 /// At least so many bytes before and after the lent room have to stay as they are.
@@ -69,35 +69,52 @@ fn line_by_line(stream: &[u8], given: &[u8], expected: &[u8]) -> String {
     "  no line differs".to_string()
 }
 
-/// The oracle's answer in a room that is long enough.
-fn expected(stream: &[u8]) -> Result<Vec<u8>, i64> {
-    let mut room = vec![0; 33 * 1_024];
-    match oracle::answer(stream, &mut room) {
-        number if number < 0 => Err(number),
-        length => {
-            room.truncate(length as usize);
-            Ok(room)
+/// What the oracle says to a stream: its answers, and the state after each accepted correction that is to be loaded afresh.
+struct Expected {
+    answers: Vec<u8>,
+    corrected: Vec<(usize, String, State)>,
+}
+
+/// The oracle's answers, or its refusal of the whole stream in a room that is long enough. Of long histories some corrections are taken.
+fn expected(stream: &[u8], dice: &mut Dice) -> Result<Expected, i64> {
+    if let Some(number) = whole_stream_refusal(stream, usize::MAX) {
+        return Err(number);
+    }
+    let all = lines(stream);
+    let some = 1 + all.len() / 12;
+    let mut state = State::Nothing;
+    let mut expected = Expected { answers: vec![], corrected: vec![] };
+    for (at, line) in all.into_iter().enumerate() {
+        let answer = step(&mut state, line);
+        expected.answers.extend(answer.bytes().chain([b'\n']));
+        let correction = line.starts_with(b"05") || line.starts_with(b"06");
+        if correction && answer.starts_with("00") && dice.once_in(some) {
+            expected.corrected.push((at + 1, answer, state.clone()));
         }
     }
+    Ok(expected)
 }
 
 /// All comparisons on one stream.
 pub fn judge(subject: Subject, stream: &[u8], dice: &mut Dice) -> Result<(), String> {
-    let expected = expected(stream);
+    let (answers, corrected) = match expected(stream, dice) {
+        Ok(Expected { answers, corrected }) => (Ok(answers), corrected),
+        Err(number) => (Err(number), vec![]),
+    };
     let exact = 33 * lines(stream).len();
-    expect(subject, stream, exact, &expected, dice)?;
+    expect(subject, stream, exact, &answers, dice)?;
     let larger = exact + if dice.once_in(64) { 100_000 } else { 1 + dice.below(100) };
-    expect(subject, stream, larger, &expected, dice)?;
+    expect(subject, stream, larger, &answers, dice)?;
     if exact > 0 {
-        let short = expected.as_ref().err().copied().unwrap_or(-3);
+        let short = answers.as_ref().err().copied().unwrap_or(-3);
         for room in [exact - 1, dice.below(exact), 0] {
             expect(subject, stream, room, &Err(short), dice)?;
         }
     }
-    let Ok(answers) = expected else { return Ok(()) };
+    let Ok(answers) = answers else { return Ok(()) };
     last_line_feed(subject, stream, &answers, dice)?;
     struck_out(subject, stream, &answers, dice)?;
-    fresh_loads(subject, stream, dice)
+    corrected.iter().try_for_each(|(line, answer, state)| fresh_load(subject, *line, answer, state, dice))
 }
 
 /// "text after the last line feed, if there is any, is a line too": without its last line feed the stream says the same.
@@ -138,30 +155,19 @@ fn load_frames(tables: &Tables) -> String {
 }
 
 /// Demand 3: the report after an accepted correction is the one that a fresh load of the corrected tables gives, and so are finding
-/// and part of a polygon. On long histories some of the corrections are taken.
-fn fresh_loads(subject: Subject, stream: &[u8], dice: &mut Dice) -> Result<(), String> {
-    let mut state = State::Nothing;
-    let all = lines(stream);
-    let some = 1 + all.len() / 12;
-    for (at, line) in all.iter().enumerate() {
-        let answer = step(&mut state, line);
-        let correction = line.starts_with(b"05") || line.starts_with(b"06");
-        if !correction || !answer.starts_with("00") || !dice.once_in(some) {
-            continue;
-        }
-        let tables = state.tables();
-        let polygon = dice.below(tables.polygons.len());
-        let stream = load_frames(&tables) + &format!("07{polygon:04X}\n");
-        let asked = step(&mut state.clone(), format!("07{polygon:04X}").as_bytes());
-        // A fresh load has all stamps 0.
-        let asked = if asked.len() > 12 { format!("{}00000000{}", &asked[..4], &asked[12..]) } else { asked };
-        let loads = 1 + tables.points.len() + tables.polygons.len();
-        let answers = "00\n".repeat(loads) + &answer + "\n" + &asked + "\n";
-        let room = 33 * (loads + 2);
-        expect(subject, stream.as_bytes(), room, &Ok(answers.into_bytes()), dice)
-            .map_err(|why| format!("fresh load of the tables after line {}: {why}", at + 1))?;
-    }
-    Ok(())
+/// and part of a polygon.
+fn fresh_load(subject: Subject, line: usize, answer: &str, state: &State, dice: &mut Dice) -> Result<(), String> {
+    let tables = state.tables();
+    let polygon = dice.below(tables.polygons.len());
+    let question = format!("07{polygon:04X}\n");
+    let asked = step(&mut state.clone(), question.trim_end().as_bytes());
+    // A fresh load has all stamps 0.
+    let asked = if asked.len() > 12 { format!("{}00000000{}", &asked[..4], &asked[12..]) } else { asked };
+    let loads = 1 + tables.points.len() + tables.polygons.len();
+    let answers = "00\n".repeat(loads) + answer + "\n" + &asked + "\n";
+    let stream = load_frames(&tables) + &question;
+    expect(subject, stream.as_bytes(), 33 * (loads + 2), &Ok(answers.into_bytes()), dice)
+        .map_err(|why| format!("fresh load of the tables after line {line}: {why}"))
 }
 
 /// The stream with as many lines dropped as leave some comparison failing.

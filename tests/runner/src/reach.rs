@@ -1,7 +1,7 @@
 //! How often each thing was reached that the streams are meant to reach, by the oracle's account; what must be reached is listed.
 
 use oracle::frame::{decode, Frame};
-use oracle::report::{findings, report};
+use oracle::report::findings;
 use oracle::ring;
 use oracle::session::{kind, refusals, refused_02_kind, step, State};
 use oracle::shape;
@@ -174,7 +174,7 @@ impl Reach {
             if let Some(frame) = decode(line) {
                 self.past(&mut past, &before, &state, &frame, &answer);
                 if answer.len() == 32 {
-                    self.report(&state.tables());
+                    self.report(&state.tables(), Told::read(&answer));
                 }
                 if frame == Frame::End && answer.len() == 32 {
                     self.rings(&state.tables());
@@ -249,8 +249,7 @@ impl Reach {
     }
 
     /// Which checks fail, the one reported and those behind it.
-    fn report(&mut self, tables: &Tables) {
-        let given = report(tables);
+    fn report(&mut self, tables: &Tables, given: Told) {
         self.size("six-volume", given.six_volume);
         self.count(format!("check {:02X} reported", given.check));
         if given.check == 0 {
@@ -368,14 +367,15 @@ impl Reach {
         }
         if accepted && matches!(frame, Frame::Begin { .. } | Frame::End) {
             *past = Past::default();
+            past.check = if answer.len() == 32 { Told::read(answer).check } else { 0 };
         }
         if let Frame::Move { number, .. } | Frame::Turn { number, .. } = frame {
             if accepted {
                 self.count_if(past.refused.contains(number), "number used again after a refusal");
-                let turned_from = |tables: &Tables| report(tables).check;
-                let (was, is) = (turned_from(&old), turned_from(&new));
-                self.count_if(was != 0 && is == 0, "a correction heals");
-                self.count_if(was == 0 && is != 0, "a correction breaks");
+                let is = Told::read(answer).check;
+                self.count_if(past.check != 0 && is == 0, "a correction heals");
+                self.count_if(past.check == 0 && is != 0, "a correction breaks");
+                past.check = is;
             } else if matches!(before, State::Held { .. }) {
                 self.count_if(past.refused.iter().any(|each| each < number) && answer == "07", "a late number above a refused one");
                 past.refused.insert(*number);
@@ -435,6 +435,22 @@ struct Past {
     refused: BTreeSet<i128>,
     left: Vec<Place>,
     turned: BTreeSet<usize>,
+    check: u8,
+}
+
+/// What a report's line tells.
+#[derive(Clone, Copy)]
+struct Told {
+    check: u8,
+    faulty: usize,
+    six_volume: i128,
+}
+
+impl Told {
+    fn read(line: &str) -> Told {
+        let field = |from: usize, to: usize| u64::from_str_radix(&line[from..to], 16).expect("a report is hexadecimal");
+        Told { check: field(2, 4) as u8, faulty: field(12, 16) as usize, six_volume: i128::from(field(16, 32) as i64) }
+    }
 }
 
 /// The checks of 01 to 06 that some polygon fails, taken one by one; 05 and 06 where there is a plane to speak of, 05 where no number
