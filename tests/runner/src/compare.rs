@@ -5,6 +5,7 @@ use crate::product::Subject;
 use oracle::session::{step, State};
 use oracle::stream::{lines, whole_stream_refusal};
 use oracle::tables::Tables;
+use std::time::{Duration, Instant};
 
 /// At least so many bytes before and after the lent room have to stay as they are.
 const MARGIN: usize = 64;
@@ -170,17 +171,19 @@ fn fresh_load(subject: Subject, line: usize, answer: &str, state: &State, dice: 
         .map_err(|why| format!("fresh load of the tables after line {line}: {why}"))
 }
 
-/// The stream with as many lines dropped as leave some comparison failing.
+/// The stream with as many lines dropped as leave some comparison failing, and as can be tried within a few seconds.
 pub fn shrink(stream: &[u8], fails: impl Fn(&[u8]) -> bool) -> Vec<u8> {
     let put = |lines: &[Vec<u8>]| -> Vec<u8> { lines.iter().flat_map(|line| line.iter().copied().chain([b'\n'])).collect() };
     let mut kept: Vec<Vec<u8>> = lines(stream).into_iter().map(<[u8]>::to_vec).collect();
     if !fails(&put(&kept)) {
         return stream.to_vec();
     }
+    let begun = Instant::now();
+    let in_time = || begun.elapsed() < Duration::from_secs(5);
     let mut piece = kept.len().div_ceil(2);
-    while piece > 0 {
+    while piece > 0 && in_time() {
         let mut at = 0;
-        while at < kept.len() {
+        while at < kept.len() && in_time() {
             let mut fewer = kept.clone();
             fewer.drain(at..(at + piece).min(kept.len()));
             if fails(&put(&fewer)) {
