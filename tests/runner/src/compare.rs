@@ -46,7 +46,8 @@ fn expect(subject: Subject, stream: &[u8], room: usize, expected: &Result<Vec<u8
         Err(number) => (*number, &[]),
     };
     if number != wanted_number {
-        return Err(format!("room {room}: returned {number}, expected {wanted_number}\n{}", line_by_line(stream, &after, answers)));
+        let given = &after[..usize::try_from(number).unwrap_or(0).min(room)];
+        return Err(format!("room {room}: returned {number}, expected {wanted_number}\n{}", line_by_line(stream, given, answers)));
     }
     if after[..answers.len()] != *answers {
         return Err(format!("room {room}: another answer\n{}", line_by_line(stream, &after, answers)));
@@ -57,9 +58,16 @@ fn expect(subject: Subject, stream: &[u8], room: usize, expected: &Result<Vec<u8
     }
 }
 
+/// A line as it can be printed, cut where no frame is so long.
+pub fn readable(line: &[u8]) -> String {
+    let cut = &line[..line.len().min(600)];
+    let rest = if cut.len() < line.len() { format!(" .. {} bytes", line.len()) } else { String::new() };
+    cut.escape_ascii().to_string() + &rest
+}
+
 /// The first line on which two answers differ.
 fn line_by_line(stream: &[u8], given: &[u8], expected: &[u8]) -> String {
-    let show = |bytes: Option<&&[u8]>| bytes.map_or("nothing".to_string(), |line| line.escape_ascii().to_string());
+    let show = |bytes: Option<&&[u8]>| bytes.map_or("nothing".to_string(), |line| readable(line));
     let (stream, given, expected) = (lines(stream), lines(given), lines(expected));
     for at in 0..stream.len() {
         if given.get(at) != expected.get(at) {

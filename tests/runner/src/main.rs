@@ -69,7 +69,7 @@ fn tell_failure(asked: &Asked, index: u64, stream: &[u8], why: &str) {
     }
     println!("-- stream of {} bytes, {} lines:", shrunk.len(), oracle::stream::lines(&shrunk).len());
     for line in oracle::stream::lines(&shrunk).iter().take(60) {
-        println!("{}", line.escape_ascii());
+        println!("{}", compare::readable(line));
     }
     println!("-- all of it: tests/run --one {index} {} {}", asked.count, asked.seed);
 }
@@ -81,7 +81,7 @@ fn show_one(asked: &Asked, index: u64) {
         if oracle::stream::whole_stream_refusal(&stream, usize::MAX).is_none() { oracle::stream::answers(&stream) } else { vec![] };
     println!("seed {} stream {index} ({}), {} bytes", asked.seed, FAMILIES[family_of(index)].name, stream.len());
     for (at, line) in oracle::stream::lines(&stream).iter().enumerate() {
-        println!("{:>5} {}\n      -> {}", at + 1, line.escape_ascii(), answers.get(at).map_or("", String::as_str));
+        println!("{:>5} {}\n      -> {}", at + 1, compare::readable(line), answers.get(at).map_or("", String::as_str));
     }
     match compare::judge(asked.subject, &stream, &mut judging(asked.seed, index)) {
         Ok(()) => println!("1 passed, 0 failed"),
