@@ -4,9 +4,9 @@
 //! out from them anew. It is slow on purpose. Each function stands for a sentence of document 01, which is its comment.
 
 pub mod frame;
+pub mod held;
 pub mod report;
 pub mod ring;
-pub mod session;
 pub mod shape;
 pub mod stream;
 pub mod tables;

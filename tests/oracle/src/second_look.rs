@@ -1,7 +1,7 @@
 //! The geometry and the reachability of the oracle once more, by other means, on seeded random input.
 
+use crate::held::{corrected, Correction};
 use crate::ring::{fails_05, finding, normal, part, share_a_point, share_more_than_end, Flat};
-use crate::session::{corrected, Correction};
 use crate::shape::{edges, fails_0b, fails_0c};
 use crate::tables::{Place, Tables, ORIGIN};
 use std::collections::HashSet;

@@ -1,6 +1,6 @@
 //! The service entry.
 
-use crate::session::{step, State};
+use crate::held::{step, State};
 
 /// "A line ends with a line feed; text after the last line feed, if there is any, is a line too. An empty stream has no lines".
 pub fn lines(stream: &[u8]) -> Vec<&[u8]> {

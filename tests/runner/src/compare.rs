@@ -2,7 +2,7 @@
 
 use crate::prng::Dice;
 use crate::product::Subject;
-use oracle::session::{step, State};
+use oracle::held::{step, State};
 use oracle::stream::{lines, whole_stream_refusal};
 use oracle::tables::Tables;
 use std::time::{Duration, Instant};

@@ -1,9 +1,9 @@
 //! How often each thing was reached that the streams are meant to reach, by the oracle's account; what must be reached is listed.
 
 use oracle::frame::{decode, Frame};
+use oracle::held::{kind, refusals, refused_02_kind, step, State};
 use oracle::report::findings;
 use oracle::ring;
-use oracle::session::{kind, refusals, refused_02_kind, step, State};
 use oracle::shape;
 use oracle::stream::lines;
 use oracle::tables::{Place, Tables, ORIGIN};
