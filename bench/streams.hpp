@@ -330,8 +330,8 @@ inline Model scribble(Random &r) {
 // A horseshoe of cubes whose ends touch at one point only: hangs together across edges and is pinched there (0C).
 inline Model horseshoe(Random &r) {
     Model m{"horseshoe", r.below(20), {}, {}};
-    const std::vector<Place> solid{{0, 0, 0}, {1, 0, 0}, {2, 0, 0}, {2, 1, 0}, {2, 1, 1}, {1, 1, 1}, {0, 0, 1}};
-    const std::size_t kept = r.one_in(3) ? solid.size() : solid.size() - 1;
+    const std::vector<Place> solid{{0, 0, 0}, {-1, 0, 0}, {-1, 0, 1}, {-1, 0, 2}, {-1, 1, 2}, {0, 1, 2}, {1, 1, 2}, {1, 1, 1}};
+    const std::size_t kept = r.one_in(6) ? solid.size() - 1 : solid.size(); // one cube less and nothing touches
     std::map<Place, int> numbers;
     const std::array<Place, 6> sides{{{-1, 0, 0}, {1, 0, 0}, {0, -1, 0}, {0, 1, 0}, {0, 0, -1}, {0, 0, 1}}};
     for (std::size_t k = 0; k < kept; k++) {
