@@ -254,7 +254,7 @@ inline Answers answer_all(Bytes stream) {
 
 enum class Route : std::uint8_t { fast, slow };
 
-struct Waiting { // not passed yet: with it and one question the stream would be refused by this number
+struct Waiting { // not passed yet: with it and the lines left for questions the stream would be refused by this number
     StreamRefusal bound = StreamRefusal::too_many_lines;
 };
 
@@ -281,7 +281,7 @@ struct RefusedLine { // of a load
 };
 
 struct Loaded {
-    std::optional<StreamRefusal> bound;    // the load does not fit with one question; nothing held has changed
+    std::optional<StreamRefusal> bound;    // the load does not fit with the lines left for questions; nothing held has changed
     bool held = false;                     // a building is held
     std::vector<RefusedLine> refused;      // lines that the service refused: the building is held without them
     std::vector<Correction> before;        // what had come for the building that this load replaced, waiting frames too
@@ -297,9 +297,11 @@ enum class Folded : std::uint8_t { done, nothing_held, not_equal };
 using Reply = std::variant<PolygonAnswer, Refused>;
 
 // Keeps one building's frames and passes them all again at each question, as document 01 asks of a host. Corrections are
-// passed in the order in which they come; the service alone decides which are late. One line is always left for a question.
+// passed in the order in which they come; the service alone decides which are late. Some lines are always left for questions.
 class Building {
   public:
+    static constexpr std::size_t question_lines = 32; // left free, so that 256 polygons are asked in 8 calls at worst
+
     explicit Building(Folding folding = Folding::by_hand) : folding_(folding) {}
 
     // Takes a load's lines as sent, from begin to end of load, in place of all that was held.
@@ -429,10 +431,10 @@ class Building {
     std::uint32_t folded_last_ = 0;             // last number when the history was folded
     std::vector<std::uint32_t> folded_stamps_;  // stamps at that time
 
-    // The refusal that a stream of this size would get once a question follows it.
+    // The refusal that a stream of this size would get with the lines that are left for questions.
     static std::optional<StreamRefusal> no_room(std::size_t bytes, std::size_t lines) {
-        if (bytes + question_bytes > FRAMECHECK_MOST_BYTES) return StreamRefusal::too_long;
-        if (lines + 1 > FRAMECHECK_MOST_LINES) return StreamRefusal::too_many_lines;
+        if (bytes + question_lines * question_bytes > FRAMECHECK_MOST_BYTES) return StreamRefusal::too_long;
+        if (lines + question_lines > FRAMECHECK_MOST_LINES) return StreamRefusal::too_many_lines;
         return std::nullopt;
     }
 
