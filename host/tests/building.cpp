@@ -115,7 +115,7 @@ void bounds_by_hand() {
     std::string first;
     for (; n < 970; n++) first += streams::move(n + 1, 3, {0, 0, 1000 + static_cast<int>(n % 7)});
     b.take_lines(first, Route::fast);
-    while (b.waiting() == 0) b.take(streams::move(++n, 3, {0, 0, 1000 + static_cast<int>(n % 7)}), Route::fast);
+    for (; b.waiting() == 0; n++) b.take(streams::move(n + 1, 3, {0, 0, 1000 + static_cast<int>(n % 7)}), Route::fast);
     HOLD(b.lines() == 992 && n == 992 - 10 + 1);
     HOLD(b.corrections().back().waiting()->bound == StreamRefusal::too_many_lines);
     HOLD(b.last_number() == n - 1);
@@ -295,8 +295,10 @@ int main(int argc, char **argv) {
     loads();
     bounds_by_hand();
     folding_keeps_stamps();
-    largest();
     folding_is_not_seen(rounds);
-    a_long_history(rounds / 100 + 1);
+    if (rounds >= 10) { // too much for valgrind
+        largest();
+        a_long_history(rounds / 100 + 1);
+    }
     return test::finish();
 }
