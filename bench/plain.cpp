@@ -145,9 +145,9 @@ std::int64_t determinant(const std::array<Point, 3> &row) { return dot(row[0], c
 
 using Edge = std::pair<std::uint16_t, std::uint16_t>; // the smaller number, the larger
 
-struct Use {
-    std::size_t polygon;
-    bool forward; // from the smaller number to the larger
+struct Uses {
+    int times = 0, forward = 0;               // forward: from the smaller number to the larger
+    std::array<std::size_t, 2> polygon{0, 0}; // the first two users
 };
 
 struct Verdict {
@@ -165,7 +165,11 @@ class Building {
     int finding(const Ring &ring) const {
         if (ring.size() < 4) return 1;
         if (ring.back() != ring.front()) return 2;
-        if (std::set<std::uint16_t>(ring.begin(), ring.end() - 1).size() != ring.size() - 1) return 3;
+        std::vector<bool> seen(points.size(), false);
+        for (std::size_t i = 0; i + 1 < ring.size(); i++) {
+            if (seen[ring[i]]) return 3;
+            seen[ring[i]] = true;
+        }
         const Point first = points[ring[0]];
         Point normal{0, 0, 0};
         for (std::size_t i = 0; i + 1 < ring.size(); i++) {
@@ -174,6 +178,7 @@ class Building {
         }
         if (normal == Point{0, 0, 0}) return 4;
         std::vector<Flat> corner;
+        corner.reserve(ring.size());
         for (auto entry : ring) corner.push_back(flatten(points[entry], normal));
         if (crosses_itself(corner)) return 5;
         const auto largest = std::max({std::abs(normal.x), std::abs(normal.y), std::abs(normal.z)});
@@ -213,29 +218,31 @@ class Building {
     // Checks 07 to 0C, tried where no polygon has a finding.
     Verdict shape() const {
         if (polygons.size() < 4) return {7, polygons.size(), 0};
-        std::map<Edge, std::vector<Use>> edges;
+        std::map<Edge, Uses> edges;
         for (std::size_t p = 0; p < polygons.size(); p++) {
             const Ring &ring = polygons[p].ring;
-            for (std::size_t i = 0; i + 1 < ring.size(); i++)
-                edges[std::minmax(ring[i], ring[i + 1])].push_back({p, ring[i] < ring[i + 1]});
+            for (std::size_t i = 0; i + 1 < ring.size(); i++) {
+                Uses &uses = edges[std::minmax(ring[i], ring[i + 1])];
+                if (uses.times < 2) uses.polygon[static_cast<std::size_t>(uses.times)] = p;
+                uses.times++;
+                uses.forward += ring[i] < ring[i + 1];
+            }
         }
         for (const auto &[edge, uses] : edges)
-            if (uses.size() == 1) return {8, edge.first, edge.second};
+            if (uses.times == 1) return {8, edge.first, edge.second};
         for (const auto &[edge, uses] : edges)
-            if (uses.size() > 2) return {9, edge.first, edge.second};
+            if (uses.times > 2) return {9, edge.first, edge.second};
         for (const auto &[edge, uses] : edges)
-            if (uses[0].forward == uses[1].forward) return {0x0A, edge.first, edge.second};
+            if (uses.forward != 1) return {0x0A, edge.first, edge.second};
 
+        using Pair = std::array<std::size_t, 2>;
         std::vector<std::vector<std::size_t>> across(polygons.size());
-        std::map<std::uint16_t, std::map<std::size_t, std::vector<std::size_t>>> around; // point, polygon: linked polygons
+        std::vector<std::vector<Pair>> links(points.size()); // by point, the polygons that its edges link
         for (const auto &[edge, uses] : edges) {
-            const std::size_t p = uses[0].polygon, q = uses[1].polygon;
-            across[p].push_back(q);
-            across[q].push_back(p);
-            for (std::uint16_t end : {edge.first, edge.second}) {
-                around[end][p].push_back(q);
-                around[end][q].push_back(p);
-            }
+            across[uses.polygon[0]].push_back(uses.polygon[1]);
+            across[uses.polygon[1]].push_back(uses.polygon[0]);
+            links[edge.first].push_back(uses.polygon);
+            links[edge.second].push_back(uses.polygon);
         }
 
         std::vector<bool> reached(polygons.size(), false);
@@ -254,18 +261,29 @@ class Building {
         for (std::size_t p = 0; p < polygons.size(); p++)
             if (!reached[p]) return {0x0B, p, 0};
 
-        for (const auto &[point, links] : around) {
-            std::set<std::size_t> linked{links.begin()->first};
-            std::vector<std::size_t> next{links.begin()->first};
-            while (!next.empty()) {
-                const std::size_t p = next.back();
-                next.pop_back();
-                for (std::size_t q : links.at(p))
-                    if (linked.insert(q).second) next.push_back(q);
-            }
-            if (linked.size() != links.size()) return {0x0C, point, 0};
-        }
+        for (std::size_t point = 0; point < points.size(); point++)
+            if (!all_linked(links[point])) return {0x0C, point, 0};
         return {};
+    }
+
+    // Whether the pairs hang together: from the first, what is linked grows until nothing is added.
+    static bool all_linked(const std::vector<std::array<std::size_t, 2>> &pairs) {
+        if (pairs.empty()) return true;
+        std::set<std::size_t> linked{pairs[0][0]};
+        bool grown = true;
+        while (grown) {
+            grown = false;
+            for (const auto &[p, q] : pairs) {
+                if (linked.count(p) != linked.count(q)) {
+                    linked.insert(p);
+                    linked.insert(q);
+                    grown = true;
+                }
+            }
+        }
+        for (const auto &pair : pairs)
+            if (linked.count(pair[0]) == 0) return false;
+        return true;
     }
 };
 
