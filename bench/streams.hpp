@@ -482,6 +482,12 @@ inline std::string any_stream(std::uint64_t seed) {
         disturb(m, r);
         if (r.one_in(3)) m.tolerance = r.one_in(4) ? r.from_to(999, 1001) : r.below(60);
         std::string now = load(m);
+        if (r.one_in(m.name == "brim" ? 2 : 8)) { // frames at the end of a load that two rules may refuse
+            now.resize(now.size() - 3);
+            for (int extra = r.from_to(1, 4); extra > 0; extra--)
+                now += r.one_in(2) ? point(r.one_in(3) ? Place{0, 100001, 0} : any_place(m, r)) : polygon({r.one_in(2) ? 600 : 0, 1, 2, 0});
+            now += end_of_load();
+        }
         if (r.one_in(12)) now = now.substr(0, now.size() - 3); // no end of load
         if (r.one_in(12)) now += point(any_place(m, r)) + polygon({0, 1, 2, 0});
         std::uint32_t number = r.one_in(20) ? 0xFFFFFFF0u : 0;
