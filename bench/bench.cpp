@@ -4,9 +4,9 @@
 #include "framecheck.h"
 #include "streams.hpp"
 
-#include <chrono>
 #include <cstdlib>
 #include <cstring>
+#include <ctime>
 #include <fstream>
 #include <ucontext.h>
 #include <vector>
@@ -69,7 +69,12 @@ void must_agree(const Case &c) {
     }
 }
 
-double seconds() { return std::chrono::duration<double>(std::chrono::steady_clock::now().time_since_epoch()).count(); }
+// The thread's own processor time, so that other work on the machine is not counted.
+double seconds() {
+    timespec t{};
+    clock_gettime(CLOCK_THREAD_CPUTIME_ID, &t);
+    return static_cast<double>(t.tv_sec) + static_cast<double>(t.tv_nsec) * 1e-9;
+}
 
 volatile std::int64_t sink;
 
@@ -80,21 +85,25 @@ double once(Entry entry, const std::string &stream, std::vector<std::uint8_t> &r
     return (seconds() - start) / calls;
 }
 
-// Medians in seconds of one whole call of each entry; the entries take turns, so that a busy machine slows all alike.
+// Medians in seconds of one whole call of each entry. The entries take turns, so that a machine whose pace changes slows all
+// alike; a sample is 100 microseconds of calls or one call, and an entry gets two seconds at most.
 std::vector<double> medians(const std::vector<Entry> &entries, const std::string &stream, int samples) {
     std::vector<std::uint8_t> room(std::max<std::size_t>(33 * lines_of(stream), stream.size()));
-    std::vector<int> calls;
+    std::vector<int> calls, wanted;
     for (Entry entry : entries) {
-        const double first = std::min(once(entry, stream, room, 1), once(entry, stream, room, 1));
-        calls.push_back(std::max(1, static_cast<int>(40e-6 / std::max(first, 1e-9))));
+        const double first = std::max(1e-8, std::min(once(entry, stream, room, 1), once(entry, stream, room, 1)));
+        calls.push_back(std::max(1, static_cast<int>(100e-6 / first)));
+        wanted.push_back(std::max(5, std::min(samples, static_cast<int>(2.0 / (first * calls.back())))));
     }
     std::vector<std::vector<double>> times(entries.size());
     for (int s = 0; s < samples; s++)
-        for (std::size_t e = 0; e < entries.size(); e++) times[e].push_back(once(entries[e], stream, room, calls[e]));
+        for (std::size_t e = 0; e < entries.size(); e++)
+            if (s < wanted[e]) times[e].push_back(once(entries[e], stream, room, calls[e]));
     std::vector<double> result;
     for (auto &t : times) {
-        std::nth_element(t.begin(), t.begin() + samples / 2, t.end());
-        result.push_back(t[static_cast<std::size_t>(samples / 2)]);
+        const auto middle = t.begin() + static_cast<std::ptrdiff_t>(t.size() / 2);
+        std::nth_element(t.begin(), middle, t.end());
+        result.push_back(*middle);
     }
     return result;
 }
@@ -199,7 +208,7 @@ int main(int argc, char **argv) {
     for (const auto &c : every) must_agree(c);
 
     machine();
-    std::printf("all three agree on the %zu streams; medians of %d samples, whole calls, taking turns\n", every.size(), samples);
+    std::printf("all three agree on the %zu streams; medians of %d samples at most, whole calls, processor time\n", every.size(), samples);
     table("loads", linked, loads, samples);
     table("loads with 50 moves, 50 turns and 200 questions", linked, corrected, samples);
     growth("growth with polygons (balls of triangles)", linked, balls, samples);
