@@ -1,4 +1,25 @@
 // The service: the lines of a stream one after the other, each refused or taken, and the one public entry.
+use building::Scalars;
+use frame::Fields;
+use shell::Shape;
+
+mod amend;
+mod answer;
+mod load;
+mod refusals;
+
+ghost use mathlib.Core.Path.{_≡_};
+ghost use mathlib.Core.List.{List};
+ghost use Prim.Native.Nat.{ℕ, _+_, _*_, _-_, _≤_, _<_};
+ghost use lib.ListN.{length, drop, getD};
+ghost use lib.Seq.{sets};
+ghost use lib.IntN.{ℤ, pos};
+ghost use Rattle.frame.specs.Lines.{lines};
+ghost use Rattle.building.specs.Holds.{Arrays, arrays, Sizes};
+ghost use Rattle.checker.specs.Service.{step};
+ghost use Rattle.checker.specs.Stream.{Answers};
+ghost use Rattle.checker.specs.Holds.{service, Valid, Did, idleDesk, Answered};
+ghost use Rattle.polygon.specs.Held.{Coords};
 
 // Why a frame is refused; `Accepted` where no test refuses it. `refusalNumber` gives document 01's number.
 pub enum Refusal {
@@ -10,4 +31,212 @@ pub enum Refusal {
     Absent,
     Taken,
     Late,
+}
+
+// What is held: nothing, a load that runs, or a building.
+pub enum Mode {
+    Nothing,
+    Loading,
+    Holding,
+}
+
+// The service's scalars: what is held, and the place in the room where the next answer goes.
+pub struct Desk {
+    pub mode: Mode,
+    pub held: Scalars,
+    pub at: usize,
+}
+
+// One line: its frame is refused or taken, and answered.
+fn one(
+    line: &[u8],
+    points: &mut [i64; 1536],
+    entries: &mut [u16; 1024],
+    starts: &mut [u16; 257],
+    stamps: &mut [u32; 256],
+    findings: &mut [u8; 256],
+    parts: &mut [i64; 256],
+    table: &mut [u64; 1024],
+    turned: &mut [u8; 256],
+    room: &mut [u8],
+    d: Desk,
+) -> Desk
+    requires { ⌜ (d .at + 33 ≤ length (now room)) × (Valid (arrays (now points) (now entries) (now starts) (now stamps) (now findings) (now parts) (now table) (now turned)) d) ⌝ }
+    ensures { λ r. ⌜ Did (step (service (arrays (now (points .entry)) (now (entries .entry)) (now (starts .entry)) (now (stamps .entry)) (now (findings .entry)) (now (parts .entry)) (now (table .entry)) (now (turned .entry))) d) (now (line .entry))) (now (room .entry)) (d .at) (arrays (now (points .exit)) (now (entries .exit)) (now (starts .exit)) (now (stamps .exit)) (now (findings .exit)) (now (parts .exit)) (now (table .exit)) (now (turned .exit))) (now (room .exit)) r ⌝ }
+{
+    let f = frame::decode(line);
+    match f {
+        Fields::Begin(tolerance) => load::begin(room, d, tolerance),
+        Fields::Point(x, y, z) => load::add_point(points, room, d, x, y, z),
+        Fields::Polygon(n) => load::add_polygon(line, n, entries, starts, room, d),
+        Fields::EndOfLoad => load::end_load(
+            points,
+            entries,
+            starts,
+            stamps,
+            findings,
+            parts,
+            table,
+            turned,
+            room,
+            d,
+        ),
+        Fields::Move(number, p, x, y, z) => {
+            let n = p as usize;
+            amend::move_point(
+                points,
+                entries,
+                starts,
+                stamps,
+                findings,
+                parts,
+                table,
+                turned,
+                room,
+                d,
+                number,
+                n,
+                x,
+                y,
+                z,
+            )
+        }
+        Fields::Turn(number, p) => {
+            let n = p as usize;
+            amend::turn_polygon(
+                points,
+                entries,
+                starts,
+                stamps,
+                findings,
+                parts,
+                table,
+                turned,
+                room,
+                d,
+                number,
+                n,
+            )
+        }
+        Fields::Question(p) => {
+            let n = p as usize;
+            amend::ask(stamps, findings, parts, room, d, n)
+        }
+        Fields::Broken => answer::refuse(room, d, Refusal::Malformed),
+    }
+}
+
+fn fresh_points() -> [i64; 1536]
+    ensures { λ r. ⌜ Coords r ⌝ }
+{
+    [0; 1536]
+}
+
+fn fresh_entries() -> [u16; 1024]
+    ensures { λ r. ⌜ length r ≡ 1024 ⌝ }
+{
+    [0; 1024]
+}
+
+fn fresh_starts() -> [u16; 257]
+    ensures { λ r. ⌜ (length r ≡ 257) × (getD r 0 0 ≡ 0) ⌝ }
+{
+    [0; 257]
+}
+
+fn fresh_stamps() -> [u32; 256]
+    ensures { λ r. ⌜ length r ≡ 256 ⌝ }
+{
+    [0; 256]
+}
+
+fn fresh_bytes() -> [u8; 256]
+    ensures { λ r. ⌜ length r ≡ 256 ⌝ }
+{
+    [0; 256]
+}
+
+fn fresh_parts() -> [i64; 256]
+    ensures { λ r. ⌜ length r ≡ 256 ⌝ }
+{
+    [0; 256]
+}
+
+fn fresh_table() -> [u64; 1024]
+    ensures { λ r. ⌜ length r ≡ 1024 ⌝ }
+{
+    [0; 1024]
+}
+
+// No load running, no building held.
+fn idle() -> Desk
+    ensures { λ r. ⌜ r ≡ idleDesk ⌝ }
+{
+    let held = Scalars {
+        tolerance: 0,
+        points: 0,
+        polygons: 0,
+        last: 0,
+        edges: 0,
+        fixed: Shape::Whole,
+    };
+    Desk {
+        mode: Mode::Nothing,
+        held,
+        at: 0,
+    }
+}
+
+// The lines of the stream one after the other.
+fn all(stream: &[u8], room: &mut [u8]) -> usize
+    requires { ⌜ (length (now stream) ≤ 65535) × (33 * length (lines (now stream)) ≤ length (now room)) ⌝ }
+    ensures { λ r. ⌜ Answered (now (stream .entry)) (now (room .entry)) (now (room .exit)) r ⌝ }
+{
+    let mut points = fresh_points();
+    let mut entries = fresh_entries();
+    let mut starts = fresh_starts();
+    let mut stamps = fresh_stamps();
+    let mut findings = fresh_bytes();
+    let mut parts = fresh_parts();
+    let mut table = fresh_table();
+    let mut turned = fresh_bytes();
+    let mut d = idle();
+    let mut from = 0;
+    while from < stream.len() {
+        let end = frame::line_end(stream, from);
+        d = one(
+            &stream[from..end],
+            &mut points,
+            &mut entries,
+            &mut starts,
+            &mut stamps,
+            &mut findings,
+            &mut parts,
+            &mut table,
+            &mut turned,
+            room,
+            d,
+        );
+        from = end + 1;
+    }
+    d.at
+}
+
+// The service entry: the number of answer bytes, or the number of the refusal of the whole stream.
+#[no_mangle]
+pub extern "C" fn checker_answer(stream: &[u8], room: &mut [u8]) -> i64
+    ensures { λ r. ⌜ Answers (now (stream .entry)) (now (room .entry)) r (now (room .exit)) ⌝ }
+{
+    if 65535 < stream.len() {
+        return -1;
+    }
+    let n = frame::count_lines(stream);
+    if 1024 < n {
+        return -2;
+    }
+    if room.len() < 33 * n {
+        return -3;
+    }
+    let r = all(stream, room);
+    r as i64
 }
