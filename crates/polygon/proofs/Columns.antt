@@ -1,5 +1,5 @@
 -- The numbers of a ring's places on one axis, copied one after another; and the edges between them.
-use Prim.Native.Nat.{ℕ, zero, suc, _+_, _*_, _-_, _≤_, _<_}
+use Prim.Native.Nat.{ℕ, suc, _+_, _*_, _-_, _≤_, _<_}
 use native.Mathlib.Omega.{arith}
 use native.Mathlib.Decide.{decLt}
 use mathlib.Core.Path.{_≡_, refl, sym, ap, ap₂, _∙_, subst}
@@ -12,8 +12,8 @@ use Rattle.whole.specs.Places.{tab-length, tab-at, steps-length, steps-at, map-
 use Rattle.whole.specs.Size.{Small}
 use Rattle.polygon.specs.declared.Axis.{Axis}
 use Rattle.polygon.specs.declared.Axis.the-variants.{X, Y, Z}
-use Rattle.polygon.specs.Space.{Point, origin, places}
-use Rattle.polygon.specs.Plane.{Spot, Segment, dropAxis}
+use Rattle.polygon.specs.Space.{places}
+use Rattle.polygon.specs.Plane.{Spot, dropAxis}
 use Rattle.polygon.specs.Ring.{edgesIn, isCrossed}
 use Rattle.polygon.specs.Held.{pointsOf, placeAt, Coords, Known}
 use Rattle.polygon.specs.Leaves.{spot, edgeAt, Spread, Filled, seenSpots}
@@ -97,17 +97,14 @@ vOf X = 2
 vOf Y = 0
 vOf Z = 1
 
+plus-zero : (n : ℕ) → n + 0 ≡ n
+plus-zero n = omega arith
+
 drop-is : (axis : Axis) (flat : List ℤ) (p : ℕ) → spot (getD flat (3 * p + uOf axis) (pos 0)) (getD flat (3 * p + vOf axis) (pos 0)) ≡ dropAxis axis (placeAt flat p)
 unfolding dropAxis
 drop-is X flat p = refl
 drop-is Y flat p = λ i. spot (getD flat (3 * p + 2) (pos 0)) (getD flat (plus-zero (3 * p) i) (pos 0))
-  where
-    plus-zero : (n : ℕ) → n + 0 ≡ n
-    plus-zero n = omega arith
 drop-is Z flat p = λ i. spot (getD flat (plus-zero (3 * p) i) (pos 0)) (getD flat (3 * p + 1) (pos 0))
-  where
-    plus-zero : (n : ℕ) → n + 0 ≡ n
-    plus-zero n = omega arith
 
 pub seen-is : {flat : List ℤ} → Coords flat → (axis : Axis) (ring : List ℕ) → ((i : ℕ) → i < length ring → getD ring i 0 < 512)
     → seenSpots flat ring (uOf axis) (vOf axis) ≡ map (dropAxis axis) (places (pointsOf flat) ring)

@@ -1,7 +1,7 @@
 -- Check 06, entry by entry.
-use Prim.Native.Nat.{ℕ, zero, suc, _+_, _*_, _-_, _≤_, _<_, max}
+use Prim.Native.Nat.{ℕ, suc, _+_, _*_, _-_, _≤_, _<_, max}
 use native.Mathlib.Omega.{arith}
-use mathlib.Core.Path.{_≡_, refl, sym, ap, ap₂, _∙_, subst}
+use mathlib.Core.Path.{_≡_, refl, sym, ap, _∙_, subst}
 use mathlib.Core.Bool.{Bool, true, false}
 use mathlib.Core.List.{List, [], _∷_, map}
 use lib.Dec.{ltb}
@@ -10,6 +10,7 @@ use lib.IntN.{ℤ, pos, natAbs}
 use lib.Signed.{ltZ}
 use Rattle.whole.specs.Lists.{any}
 use Rattle.whole.specs.Size.{Small}
+use Rattle.whole.specs.Places.{map-at}
 use Rattle.whole.specs.Search.{any-here, any-next, any-end}
 use Rattle.polygon.specs.Space.{Point, origin, relativeTo, dot, places}
 use Rattle.polygon.specs.Ring.{relative, size, isUneven}
@@ -23,11 +24,6 @@ size-small {m} {n} h = record { small = both (natAbs (n .x)) (natAbs (n .y)) (na
   where
     both : (a b c m : ℕ) → a ≤ m → b ≤ m → c ≤ m → max a (max b c) ≤ m
     both a b c m p q r = omega arith
-
-pub map-at : {A B : Type 0} (f : A → B) (l : List A) (i : ℕ) (d : A) (e : B) → i < length l → getD (map f l) i e ≡ f (getD l i d)
-map-at f [] i d e h = absurd (omega arith)
-map-at f (x ∷ l) zero d e h = refl
-map-at f (x ∷ l) (suc i) d e h = map-at f l i d e (omega arith)
 
 -- ---- the places of a ring, relative to its first
 pub ways : List Point → List ℕ → List Point

@@ -1,6 +1,6 @@
 -- The numbers of places as the machine sees them, for what is asked of sums and products of them.
-use Prim.Native.Nat.{ℕ, zero, suc, _^_, _*_, _+_}
-use mathlib.Core.Path.{_≡_, refl, sym, ap, _∙_, subst}
+use Prim.Native.Nat.{ℕ, zero, suc, _^_}
+use mathlib.Core.Path.{_≡_, sym, ap, _∙_, subst}
 use mathlib.Core.List.{List, [], _∷_}
 use lib.Dec.{T, ltb}
 use lib.IntN.{ℤ}

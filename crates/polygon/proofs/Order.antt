@@ -1,26 +1,22 @@
 -- The checks in order: what is found where the first n have passed and the next fails.
 use Prim.Native.Nat.{ℕ, _≤_, _<_}
-use mathlib.Core.Path.{_≡_, refl, sym, ap, _∙_}
+use mathlib.Core.Path.{_≡_, sym, ap, _∙_}
 use mathlib.Core.Bool.{Bool, true, false, not}
 use mathlib.Core.List.{List, [], _∷_}
 use borrow.Author.Tests.{lt-ltb, le-ltb}
 use lib.ListN.{length}
-use Rattle.whole.specs.All.{All, none, more}
+use Rattle.whole.specs.All.{none, more}
 use Rattle.whole.specs.First.{first-is, first-none}
-use Rattle.polygon.specs.declared.Finding.{Finding}
 use Rattle.polygon.specs.declared.Finding.the-variants.{Sound, Short, Unclosed, Repeated, NoNormal, Crossed, Uneven}
 use Rattle.polygon.specs.Space.{Point, places}
 use Rattle.polygon.specs.Plane.{largestAxis}
 use Rattle.polygon.specs.Ring.{finding, isShort, isUnclosed, isRepeated, normal, isZero, edgesIn, isCrossed, isUneven}
 use Rattle.polygon.specs.Checks.{checks, finding-rows}
+use Rattle.polygon.proofs.Rings.{not-not}
 
 -- "last entry differs from first", from whether the ring is closed
 pub unclosed-is : {r u t : Bool} → r ≡ not u → not r ≡ t → u ≡ t
-unclosed-is {r} {u} e h = sym (twice u) ∙ ap not (sym e) ∙ h
-  where
-    twice : (b : Bool) → not (not b) ≡ b
-    twice true = refl
-    twice false = refl
+unclosed-is {r} {u} e h = sym (not-not u) ∙ ap not (sym e) ∙ h
 
 module _ (tolerance : ℕ) (points : List Point) (ring : List ℕ) where
   abbrev n : Point

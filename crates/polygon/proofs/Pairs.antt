@@ -1,10 +1,10 @@
 -- Check 05, pair of edges by pair of edges.
-use Prim.Native.Nat.{ℕ, zero, suc, _+_, _*_, _-_, _≤_, _<_}
+use Prim.Native.Nat.{ℕ, suc, _+_, _-_, _<_}
 use native.Mathlib.Omega.{arith}
 use native.Mathlib.Numerals.{add-one}
 use mathlib.Core.Path.{_≡_, refl, sym, ap, ap₂, _∙_, subst}
 use mathlib.Core.Bool.{Bool, true, false, not, _&&_, _||_, true≢false, false≢true}
-use mathlib.Core.List.{List, [], _∷_}
+use mathlib.Core.List.{List}
 use borrow.Author.Tests.{eq-eqb, ne-eqb}
 use lib.Dec.{eqb}
 use lib.ListN.{length, getD, drop}
@@ -12,9 +12,9 @@ use lib.IntN.{ℤ, pos}
 use Rattle.whole.specs.Lists.{any, anyTwo, tab, numbered}
 use Rattle.whole.specs.Search.{any-here, any-next, any-end, two-here, two-next, two-end}
 use Rattle.whole.specs.Places.{tab-length, tab-at, numbered-length, numbered-at}
-use Rattle.polygon.specs.Plane.{Spot, Segment, side, sameSign, overlap, share, shareMore}
+use Rattle.polygon.specs.Plane.{Segment, side, sameSign, overlap, share, shareMore}
 use Rattle.polygon.specs.Ring.{follows, forbidden, isCrossed}
-use Rattle.polygon.specs.Leaves.{Close, Ends, edgeAt, Spread, spot}
+use Rattle.polygon.specs.Leaves.{Ends, edgeAt, Spread, spot}
 
 -- ---- what `share` finds, test by test
 none-apart : (a b c d : Bool) → (not a || not b) ≡ true → false ≡ (a && b && c && d)

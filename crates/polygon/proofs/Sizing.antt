@@ -1,18 +1,16 @@
 -- The size of a number, and the largest of three, as code finds them.
-use Prim.Native.Nat.{ℕ, zero, suc, _+_, _≤_, _<_, _^_, max}
+use Prim.Native.Nat.{ℕ, suc, _+_, _≤_, _<_, _^_, max}
 use native.Mathlib.Omega.{arith}
 use mathlib.Core.Path.{_≡_, refl, sym, ap, ap₂, _∙_}
 use mathlib.Core.Bool.{Bool, true, false, cond, _&&_}
 use lib.Dec.{T, leb, ltb, eqb}
 use lib.IntN.{ℤ, pos, negsuc, natAbs, _-ℤ_, +ℤ-idl}
-use lib.Signed.{mag, ltZ, leZ, _≤ℤ_, _<ℤ_}
+use lib.Signed.{mag, _≤ℤ_, _<ℤ_}
 use Rattle.whole.specs.Solve.{k}
 use Rattle.whole.specs.Linear.{lin, _≺_, _⇒_, never}
-use Rattle.polygon.specs.declared.Axis.{Axis}
 use Rattle.polygon.specs.declared.Axis.the-variants.{X, Y, Z}
 use Rattle.polygon.specs.Space.{Point}
 use Rattle.polygon.specs.Plane.{largestAxis}
-use Rattle.polygon.specs.Ring.{size}
 use Rattle.polygon.specs.Leaves.{most}
 use borrow.Author.Tests.{ltb-true, ltb-false, eq-eqb, ne-eqb, eqb-true, eqb-false}
 use mir.Syntax.{w64}

@@ -1,10 +1,9 @@
 -- Stretches that have no number in common: by the ends of the one, as the definition says, and by its least and largest.
-use mathlib.Core.Path.{_≡_, refl, sym, ap, ap₂, _∙_}
+use mathlib.Core.Path.{_≡_, refl, sym, ap₂, _∙_}
 use mathlib.Core.Bool.{Bool, true, false, cond, not, _&&_, _||_}
 use native.Mathlib.Omega.{arith}
 use lib.IntN.{ℤ}
 use lib.Signed.{ltZ, _≤ℤ_, _<ℤ_}
-use Rattle.whole.specs.Solve.{E}
 use Rattle.whole.specs.Linear.{lin, _≼_, _≺_, _⇒_}
 use Rattle.whole.specs.Tests.{lt-yes, lt-no, lt-test, lt-le}
 use Rattle.polygon.specs.Plane.{under, overlap}

@@ -1,11 +1,11 @@
 -- The loops over consecutive entries: how far they have come, and what they have summed.
 use Prim.Native.Nat.{ℕ, zero, suc, _+_, _*_, _-_, _≤_, _<_, _^_}
 use native.Mathlib.Omega.{arith}
-use mathlib.Core.Path.{_≡_, refl, sym, ap, ap₂, _∙_, subst}
+use mathlib.Core.Path.{_≡_, refl, sym, ap, _∙_, subst}
 use mathlib.Core.List.{List, [], _∷_, map, foldr}
 use mathlib.Core.Bool.{true, _&&_}
 use lib.Dec.{T, ltb}
-use lib.ListN.{length, getD, drop}
+use lib.ListN.{length, getD}
 use lib.IntN.{ℤ, pos, _+ℤ_, +ℤ-idl}
 use mir.Syntax.{w64}
 use mir.Val.{toZ, ofZ, hbits}
@@ -25,9 +25,7 @@ use Rattle.polygon.specs.Leaves.{Near}
 -- ---- how far a loop has come: entry i of n is next, and last was before it
 pub record Going (ring : List ℕ) (n first last i : ℕ) : Type 0 where
   pub all : n ≡ length ring
-  pub low : 1 ≤ i
   pub upto : i ≤ n
-  pub head : first ≡ getD ring 0 0
   pub head-known : first < 512
   pub last-known : last < 512
 
@@ -35,7 +33,7 @@ pub going-start : {ring : List ℕ} {n : ℕ} → Known ring → n ≡ length ri
 going-start {ring} {n} k e f =
     let l : 1 ≤ n = positive n f in
     let h : getD ring 0 0 < 512 = k .each 0 (omega arith) in
-    record { all = e; low = omega arith; upto = l; head = refl; head-known = h; last-known = h }
+    record { all = e; upto = l; head-known = h; last-known = h }
   where
     positive : (n : ℕ) → (n ≡ 0 → ⊥) → 1 ≤ n
     positive zero f = absurd (f refl)
@@ -45,9 +43,7 @@ pub going-next : {ring : List ℕ} {n first last i : ℕ} → Known ring → Goi
 going-next {ring} {n} {first} {last} {i} k g h =
     record {
       all = g .all;
-      low = omega arith;
       upto = omega arith;
-      head = g .head;
       head-known = g .head-known;
       last-known = k .each i (omega (arith, g .all));
     }

@@ -4,7 +4,7 @@ use mathlib.Core.Path.{_≡_, refl, sym, _∙_}
 use mathlib.Core.Bool.{Bool, true}
 use mathlib.Core.List.{List, [], _∷_}
 use lib.ListN.{length, getD, take}
-use Rattle.whole.specs.Lists.{given, first, any, anyTwo}
+use Rattle.whole.specs.Lists.{first, any, anyTwo}
 use Rattle.whole.specs.First.{rows, NoneGiven, Distinct, row-exactly, none-exactly, distinct-of}
 use Rattle.polygon.specs.declared.Finding.{Finding}
 use Rattle.polygon.specs.declared.Finding.the-variants.{Sound, Short, Unclosed, Repeated, NoNormal, Crossed, Uneven}

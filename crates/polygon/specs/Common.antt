@@ -2,14 +2,14 @@
 -- of d on the way along the one segment are where t parts of d on the way along the other are. The test of Plane says just that.
 use Prim.Native.Nat.{ℕ, zero, suc, _+_, _≤_, _<_}
 use native.Mathlib.Omega.{arith}
-use mathlib.Core.Path.{_≡_, refl, sym, ap, ap₂, _∙_, subst}
-use mathlib.Core.Bool.{Bool, true, false}
+use mathlib.Core.Path.{_≡_, sym, ap, ap₂, _∙_, subst}
+use mathlib.Core.Bool.{true}
 use lib.Dec.{le→leb, lt→ltb}
 use lib.IntN.{ℤ, pos, natAbs, _+ℤ_, _-ℤ_, _*ℤ_}
 use lib.Signed.{_≤ℤ_, _<ℤ_, leZ-yes, ltZ-yes, pos-natAbs, yes-nonNeg}
-use Rattle.whole.specs.Solve.{E, v, k, _⊕_, _⊖_, _⊗_, ring, _≔_}
-use Rattle.whole.specs.Linear.{_≼_, _≺_, _≈_, _⇒_, lin}
-use Rattle.polygon.specs.Plane.{Spot, Segment, share}
+use Rattle.whole.specs.Solve.{v, k, _⊕_, _⊖_, _⊗_, ring, _≔_}
+use Rattle.whole.specs.Linear.{_≼_, _⇒_, lin}
+use Rattle.polygon.specs.Plane.{Segment, share}
 use Rattle.polygon.specs.Meet.{Meet}
 use Rattle.polygon.specs.Share.{share-exactly}
 

@@ -4,13 +4,11 @@ use mathlib.Core.Path.{_≡_, refl}
 use mathlib.Core.List.{List, [], _∷_}
 use lib.IntN.{ℤ, pos, negsuc}
 use Rattle.whole.specs.Lists.{lists-compute}
-use Rattle.polygon.specs.declared.Axis.{Axis}
-use Rattle.polygon.specs.declared.Axis.the-variants.{X, Y, Z}
-use Rattle.polygon.specs.declared.Finding.{Finding}
-use Rattle.polygon.specs.declared.Finding.the-variants.{Sound, Short, Unclosed, Repeated, NoNormal, Crossed, Uneven}
+use Rattle.polygon.specs.declared.Axis.the-variants.{X, Y}
+use Rattle.polygon.specs.declared.Finding.the-variants.{Sound, Unclosed, Repeated, NoNormal, Crossed, Uneven}
 use Rattle.polygon.specs.Space.{Point, space-computes}
 use Rattle.polygon.specs.Plane.{largestAxis, plane-computes}
-use Rattle.polygon.specs.Ring.{finding, part, ring-computes}
+use Rattle.polygon.specs.Ring.{finding, ring-computes}
 
 abbrev place : ℤ → ℤ → ℤ → Point
 place x y z = record { x = x; y = y; z = z }

@@ -1,14 +1,13 @@
 -- How code holds points and rings: three numbers to a point, one after another, in fixed room.
 use Prim.Native.Nat.{ℕ, zero, suc, _+_, _*_, _-_, _≤_, _<_}
 use native.Mathlib.Omega.{arith}
-use mathlib.Core.Path.{_≡_, refl, sym, ap, ap₂, _∙_, subst}
-use mathlib.Core.List.{List, [], _∷_, map}
-use lib.ListN.{length, getD, take, drop, set}
+use mathlib.Core.Path.{_≡_, refl, sym, ap, ap₂, _∙_}
+use mathlib.Core.List.{List, [], _∷_}
+use lib.ListN.{length, getD, take, set}
 use lib.Seq.{getD-take}
 use lib.IntN.{ℤ, pos}
 use Rattle.whole.specs.Size.{Small}
 use Rattle.polygon.specs.Space.{Point, origin, places}
-use Rattle.polygon.specs.declared.Finding.{Finding}
 use Rattle.polygon.specs.Ring.{finding, part}
 
 -- the points that a list of numbers holds

@@ -1,20 +1,19 @@
 -- Two neighbours "share more than their common end": the test of Plane says exactly whether they have a point in common that
 -- is not that end.
 use mathlib.Core.Path.{_≡_, refl, sym, _∙_, ap, ap₂, subst}
-use mathlib.Core.Bool.{Bool, true, false, _&&_}
+use mathlib.Core.Bool.{true, false, _&&_}
 use mathlib.Core.Logic.{_⊎_, inl, inr}
-use Prim.Native.Nat.{ℕ, zero, suc, _+_, _≤_, _<_}
+use Prim.Native.Nat.{ℕ, _+_, _≤_, _<_}
 use native.Mathlib.Omega.{arith}
-use borrow.Author.Tests.{eqb-true, eq-eqb}
-use lib.Dec.{T, eqb}
-use lib.IntN.{ℤ, pos, negsuc, negℤ, natAbs, _+ℤ_, _-ℤ_, _*ℤ_}
-use lib.Signed.{_≤ℤ_, _<ℤ_, ltZ, leZ, leZ-yes, ltZ-yes}
+use borrow.Author.Tests.{eqb-true}
+use lib.IntN.{ℤ, pos, negsuc, negℤ, _+ℤ_, _-ℤ_, _*ℤ_}
+use lib.Signed.{_≤ℤ_, _<ℤ_, ltZ}
 use Rattle.whole.specs.Lists.{sameZ}
 use Rattle.whole.specs.Solve.{E, v, k, _⊕_, _⊖_, _⊗_, ⊝_, ring, _≔_}
 use Rattle.whole.specs.Ring.{combine}
-use Rattle.whole.specs.Linear.{_≼_, _≺_, _≈_, fits, never, _⇒_, _&_, lin}
+use Rattle.whole.specs.Linear.{_≼_, _≺_, _≈_, never, _⇒_, _&_, lin}
 use Rattle.whole.specs.Tests.{three-ways, lt-le, square, mul-nonneg, mul-pos-pos, lt-yes, lt-test}
-use Rattle.polygon.specs.Plane.{Spot, Segment, turnOff, ahead, shareMore}
+use Rattle.polygon.specs.Plane.{Spot, turnOff, ahead, shareMore}
 use Rattle.polygon.specs.Meet.{and-left, and-right}
 use Rattle.polygon.specs.Common.{along, CommonPoint}
 

@@ -1,11 +1,10 @@
 -- How large the numbers grow that are told of a ring of known points.
-use Prim.Native.Nat.{ℕ, zero, suc, _+_, _*_, _-_, _≤_, _<_}
+use Prim.Native.Nat.{ℕ, suc, _+_, _*_, _-_, _≤_, _<_}
 use native.Mathlib.Omega.{arith}
-use native.Mathlib.Nat.{mul-suc, mul-comm, le-of-eq}
-use mathlib.Core.Path.{_≡_, refl, sym, ap, _∙_, subst}
+use mathlib.Core.Path.{_≡_, sym, _∙_, subst}
 use mathlib.Core.List.{List, [], _∷_, map, foldr}
 use lib.ListN.{length, getD, length-map}
-use lib.IntN.{ℤ, pos}
+use lib.IntN.{ℤ}
 use Rattle.whole.specs.Lists.{steps, stepsFrom, sumOf}
 use Rattle.whole.specs.Size.{Small, small-zero, small-add, small-sub, small-mul, small-more}
 use Rattle.whole.specs.All.{All, none, more}

@@ -1,7 +1,7 @@
 // One ring: its finding, the first of checks 01 to 06 that fails, and its part of the six-volume.
 ghost use mathlib.Core.Path.{_≡_};
 ghost use mathlib.Core.Bool.{not};
-ghost use Prim.Native.Nat.{ℕ, _+_, _*_, _<_, _≤_};
+ghost use Prim.Native.Nat.{_+_, _*_, _<_, _≤_};
 ghost use lib.Dec.{eqb};
 ghost use lib.ListN.{length, getD, drop};
 ghost use lib.IntN.{pos, natAbs, _+ℤ_, _-ℤ_, _*ℤ_};
@@ -9,7 +9,7 @@ ghost use lib.Signed.{ltZ};
 ghost use Rattle.whole.specs.Lists.{lists, any, anyTwo, steps, numbered, tab};
 ghost use Rattle.whole.specs.Size.{Small};
 ghost use Rattle.polygon.specs.Space.{determinant, relativeTo, cross, dot, places};
-ghost use Rattle.polygon.specs.Plane.{largestAxis, side, sameSign, overlap, share, shareMore, turnOff, ahead};
+ghost use Rattle.polygon.specs.Plane.{largestAxis, side, sameSign, overlap, share, shareMore};
 ghost use Rattle.polygon.specs.Ring.{isUnclosed, isRepeated, normal, isZero, forbidden, edgesIn, isCrossed, size, isUneven, finding, part};
 ghost use Rattle.polygon.specs.Held.{pointsOf, placeAt, Coords, Known};
 ghost use Rattle.polygon.specs.Leaves.{asPoint, rowOf, Rows, Nine, Near, at, least, most, spot, asSegment, Close, Ends, edgeAt, Spread, Filled, seenSpots};
