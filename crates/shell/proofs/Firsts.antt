@@ -157,11 +157,11 @@ module _ (es l m : List ℕ) (best i x v : ℕ) (q : x ≡ stepOf (getD l i 0)) 
   pub cut-take-at : getD m x 0 ≡ 0 → v < best → Cutting es l m v (i + 1)
   cut-take-at e lt = rw (z, q) (cut-take es l m best i s h (rw q at e) (rw (z, q) at lt))
 
--- the mark of polygon 0 alone
-pub seed-marks : (m : List ℕ) → Blank m → Marks (set m 0 1)
-seed-marks m b = record {
+-- one mark alone
+pub seed-marks : (m : List ℕ) (s : ℕ) → s < 1024 → Blank m → Marks (set m s 1)
+seed-marks m s h b = record {
   size = simp length-set (b .size);
-  bits = λ p. ⊎-elim (λ (w : (p ≡ 0) × (getD (set m 0 1) p 0 ≡ 1)). omega (arith, w .1)) (λ (w : (p ≢ 0) × (getD (set m 0 1) p 0 ≡ getD m p 0)). omega (arith, w .1, b .bare p)) (at-set m 0 1 p (omega (arith, b .size)));
+  bits = λ p. ⊎-elim (λ (w : (p ≡ s) × (getD (set m s 1) p 0 ≡ 1)). omega (arith, w .1)) (λ (w : (p ≢ s) × (getD (set m s 1) p 0 ≡ getD m p 0)). omega (arith, w .1, b .bare p)) (at-set m s 1 p (omega (arith, b .size)));
 }
 
 module _ (l m m′ : List ℕ) (n r : ℕ) (b : Blank m) (f : Flooded (Joins 0 0 l) (set m 0 1) m′) (u : LowestBare m′ n r) where
