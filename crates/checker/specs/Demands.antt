@@ -1,87 +1,116 @@
--- The three acceptance demands, as theorems about the definitions.
-use Prim.Native.Nat.{ℕ, _≤_, _<_}
-use borrow.Author.Tests.{le-leb}
-use lib.IntN.{ℤ}
-use Rattle.whole.specs.Lists.{given, first}
+-- The three acceptance demands, in the architect's order and words, as theorems about the definitions.
+use Prim.Native.Nat.{ℕ, _*_, _≤_, _<_}
 use mathlib.Core.Path.{_≡_, refl, sym, ap, _∙_, subst}
 use mathlib.Core.Bool.{Bool, true, false}
 use mathlib.Core.List.{List, [], _∷_, _++_}
-use lib.ListN.{length, getD}
-use Rattle.frame.specs.Frame.{Frame, move, turn, decode}
-use Rattle.frame.specs.Answer.{plain}
-use Rattle.building.specs.Tables.{Tables, Building, loaded}
-use Rattle.building.specs.Report.{verdict}
+use lib.ListN.{length, drop, getD}
+use lib.IntN.{ℤ, pos, negsuc}
+use Rattle.whole.specs.Lists.{tally}
+use Rattle.whole.specs.All.{All}
+use Rattle.frame.specs.Frame.{Frame, move, turn, question, decode}
+use Rattle.frame.specs.Lines.{lines, ended, joined}
+use Rattle.frame.specs.Answer.{plain, reported, told}
+use Rattle.polygon.specs.Ring.{finding, findingNumber, part}
+use Rattle.polygon.specs.declared.Finding.the-variants.{Sound}
+use Rattle.building.specs.Tables.{Tables, Building, Polygon}
+use Rattle.building.specs.Report.{report, verdict, checkNumber, elementA, elementB, isFault, findings, sixVolume}
 use Rattle.building.specs.declared.Verdict.{Verdict}
-use Rattle.building.specs.declared.Verdict.the-variants.{Accepted}
-use Rattle.building.specs.Accepted.{NoneFails, accepted-none-fails, none-fails-accepted}
-use Rattle.building.specs.Corrections.{Correction, told, corrected, stampOf}
-use Rattle.building.specs.History.{told-loaded, stamp-told}
-use Rattle.checker.specs.Service.{State, nothing, holding, tablesOf, late, refusal, refusalNumber, reportOf, step}
+use Rattle.building.specs.declared.Verdict.the-variants.{Accepted, Faulty}
+use Rattle.building.specs.Thirteen.{NoneOfThirteen, accepted-none, none-accepted, named-polygon}
+use Rattle.building.specs.Thirteen as T
+use Rattle.building.specs.Corrections.{Correction, stampOf, lastNumber}
+use Rattle.checker.specs.declared.Refusal.the-variants.{Late}
+use Rattle.checker.specs.Service.{State, nothing, holding, tablesOf, buildingOf, refusal, refusalNumber, reportOf, toldOf, step}
 use Rattle.checker.specs.Stream.{Served, wholeRefusal, served, answers}
-use Rattle.checker.specs.Refusals.{accepts, refused-line, after, struck, answersTo, acceptedAnswers, strike-answers}
-use Rattle.checker.specs.History.{NoBegin, history, after-told}
-use Rattle.checker.specs.Fresh.{Sound, idle, hold, after-sound, held-loadable, freshReport, fresh-is, isCorrection, correction-reports}
-use Rattle.building.specs.Loadable.{Loadable}
-use Rattle.checker.specs.Handlers.{of-move, of-turn}
-use Rattle.checker.specs.Room.{isAnswered, refused-untouched, room-length}
+use Rattle.checker.specs.Refusals.{accepts, refused-line, after, struck, answersTo, acceptedAnswers, struck-stream}
+use Rattle.checker.specs.Fresh.{freshReport, isCorrection}
+use Rattle.checker.specs.Span.{Span, loadedBy, correctionsOf, correctedBy, held, held-tables, stamp-is, correction-fresh, freshHeld, SameButStamp, question-fresh, Numbered, late-correction}
+use Rattle.checker.specs.Short.{step-short}
+use Rattle.checker.specs.Room as R
 
--- ---- 1: one fixed answer to every byte sequence
+-- ---- 1. "Every sequence of bytes gets a fixed answer."
 
-pub one-answer : (stream room : List ℕ) (r r′ : Served) → r ≡ served stream room → r′ ≡ served stream room → r ≡ r′
-one-answer stream room r r′ e e′ = e ∙ sym e′
+-- what comes back is a function of the stream and the room: two results that the entry's statement allows are one
+pub fixed-answer : (stream room : List ℕ) (r r′ : Served) → r ≡ served stream room → r′ ≡ served stream room → r ≡ r′
+fixed-answer stream room r r′ e e′ = e ∙ sym e′
 
-pub untouched : (stream room : List ℕ) → isAnswered (wholeRefusal stream room) ≡ false → served stream room .room ≡ room
-untouched = refused-untouched
+-- "A stream refused as a whole returns its refusal number and leaves the answer room untouched."
+pub too-long : (stream room : List ℕ) → 65535 < length stream → served stream room ≡ record { code = negsuc 0; room = room }
+too-long = R.long-stream
 
-pub same-length : (stream room : List ℕ) → length (served stream room .room) ≡ length room
-same-length = room-length
+pub too-many-lines : (stream room : List ℕ) → length stream ≤ 65535 → 1024 < length (lines stream) → served stream room ≡ record { code = negsuc 1; room = room }
+too-many-lines = R.many-lines
 
--- a refused line answers two digits and changes nothing, and striking out all refused lines changes no other answer
-pub refused-changes-nothing : (st : State) (l : List ℕ) → accepts st l ≡ false → step st l ≡ record { next = st; answer = plain (refusalNumber (refusal st (decode l))) }
-refused-changes-nothing = refused-line
+pub too-little-room : (stream room : List ℕ) → length stream ≤ 65535 → length (lines stream) ≤ 1024 → length room < 33 * length (lines stream)
+    → served stream room ≡ record { code = negsuc 2; room = room }
+too-little-room = R.narrow-room
 
-pub strike-out : (st : State) (ls : List (List ℕ)) → answersTo st (struck st ls) ≡ acceptedAnswers st ls
-strike-out = strike-answers
+-- any other is answered line by line, and the room after the last answer is untouched
+pub answered : (stream room : List ℕ) → length stream ≤ 65535 → length (lines stream) ≤ 1024 → 33 * length (lines stream) ≤ length room
+    → served stream room ≡ record { code = pos (length (answers stream)); room = answers stream ++ drop (length (answers stream)) room }
+answered = R.answered-stream
 
--- ---- 2: a building is accepted exactly when no check fails
+-- "A refused frame answers with its number only and changes nothing held."
+pub refused-frame : (st : State) (l : List ℕ) → accepts st l ≡ false → step st l ≡ record { next = st; answer = plain (refusalNumber (refusal st (decode l))) }
+refused-frame = refused-line
 
-pub accepted-only : (t : Tables) → verdict t ≡ Accepted → NoneFails t
-accepted-only = accepted-none-fails
+-- "The caller has to check nothing beforehand": 33 bytes for each line are enough, and the room keeps its length
+pub enough-room : (st : State) (l : List ℕ) → length (ended (step st l .answer)) ≤ 33
+enough-room = step-short
 
-pub accepted-always : (t : Tables) → NoneFails t → verdict t ≡ Accepted
-accepted-always = none-fails-accepted
+pub room-kept : (stream room : List ℕ) → length (served stream room .room) ≡ length room
+room-kept = R.room-length
 
--- ---- 3: corrections
+-- ---- 2. The verdict, the element named, the number of polygons with a finding, each polygon's own finding and volume part, and the six-volume
 
--- what is held after lines without an accepted begin, since a load ended: told from the accepted corrections
-pub told-from-history : (t : Tables) (ls : List (List ℕ)) → NoBegin (holding (loaded t)) ls
-    → after (holding (loaded t)) ls ≡ holding (told t (history (holding (loaded t)) ls []))
-told-from-history t ls n =
-    subst (λ (b : Building). NoBegin (holding b) ls → after (holding b) ls ≡ holding (told t (history (holding b) ls []))) (told-loaded t) (after-told t [] ls) n
+-- what a report answers
+pub reports : (t : Tables) → reportOf t ≡ reported (checkNumber (verdict t)) (elementA (verdict t)) (elementB (verdict t)) (tally isFault (findings t)) (sixVolume t)
+unfolding reportOf report
+reports t = refl
 
--- every accepted correction is answered by the report that a fresh load of the corrected tables gets at its end
-pub same-as-fresh : (ls : List (List ℕ)) (l : List ℕ) → accepts (after nothing ls) l ≡ true → isCorrection (decode l) ≡ true
-    → step (after nothing ls) l .answer ≡ freshReport (tablesOf (step (after nothing ls) l .next))
-same-as-fresh ls l a c = correction-reports (after nothing ls) l (after-sound nothing ls idle) a c
+-- what a question answers
+pub tells : (n : ℕ) (b : Building) → toldOf n b ≡ told (findingNumber (finding (b .tables .tolerance) (b .tables .points) (getD (b .tables .polygons) n []))) (getD (b .stamps) n 0) (part (b .tables .points) (getD (b .tables .polygons) n []))
+unfolding toldOf
+tells n b = refl
 
--- and those tables are the corrected ones of the history
-pub fresh-corrected : (t : Tables) → Loadable t → (ls : List (List ℕ)) → NoBegin (holding (loaded t)) ls
-    → reportOf (tablesOf (after (holding (loaded t)) ls)) ≡ freshReport (corrected t (history (holding (loaded t)) ls []))
-unfolding loaded told tablesOf
-fresh-corrected t ok ls n =
-    let e : after (holding (loaded t)) ls ≡ holding (told t (history (holding (loaded t)) ls [])) = told-from-history t ls n in
-    let s : Sound (holding (told t (history (holding (loaded t)) ls []))) = subst Sound e (after-sound (holding (loaded t)) ls (hold ok)) in
-    ap (λ (st : State). reportOf (tablesOf st)) e ∙ sym (fresh-is (corrected t (history (holding (loaded t)) ls [])) (held-loadable s))
+-- "a building is accepted exactly when none of the thirteen fails"
+pub accepted-only : (t : Tables) → verdict t ≡ Accepted → NoneOfThirteen t
+accepted-only = accepted-none
 
--- a polygon's stamp is the number of the last accepted correction that turned it or moved a point its ring lists
-pub stamp-from-history : (t : Tables) (h : List Correction) (n : ℕ) → n < length (t .polygons) → getD (told t h .stamps) n 0 ≡ stampOf h n (getD (t .polygons) n [])
-stamp-from-history = stamp-told
+pub accepted-always : (t : Tables) → NoneOfThirteen t → verdict t ≡ Accepted
+accepted-always = none-accepted
 
--- a correction whose number is not above the last accepted one is refused with 07
-pub late-move : (b : Building) (number n : ℕ) (x y z : ℤ) → number ≤ b .last → refusal (holding b) (move number n x y z) ≡ late
-unfolding first given
-late-move b number n x y z h = of-move b number n x y z ∙ (rw (le-leb number (b .last) h))
+-- "otherwise the first failing one is reported with its element": the lowest polygon with a finding (07 to 0D: Thirteen, named-07 to named-0D)
+pub lowest-polygon : (t : Tables) (done : List Polygon) (ring : Polygon) (rest : List Polygon) → t .polygons ≡ done ++ ring ∷ rest
+    → All (λ (r : Polygon). finding (t .tolerance) (t .points) r ≡ Sound) done → isFault (finding (t .tolerance) (t .points) ring) ≡ true
+    → verdict t ≡ Faulty (length done) (finding (t .tolerance) (t .points) ring)
+lowest-polygon = named-polygon
 
-pub late-turn : (b : Building) (number n : ℕ) → number ≤ b .last → refusal (holding b) (turn number n) ≡ late
-unfolding first given
-late-turn b number n h = of-turn b number n ∙ (rw (le-leb number (b .last) h))
+-- ---- 3. From an accepted end of load until the next accepted begin
+
+module _ (before : List (List ℕ)) (end : List ℕ) (since : List (List ℕ)) (s : Span before end since) where
+  -- what is held are the corrected tables
+  pub corrected-tables : tablesOf (held before end since) ≡ correctedBy before since
+  corrected-tables = held-tables before end since s
+
+  -- "after each accepted correction the report equals that of a fresh load of the corrected tables at the same tolerance"
+  pub same-report : (l : List ℕ) → accepts (held before end since) l ≡ true → isCorrection (decode l) ≡ true
+      → step (held before end since) l .answer ≡ freshReport (correctedBy before (since ++ (l ∷ [])))
+  same-report l = correction-fresh before end since l s
+
+  -- "and so do each polygon's own finding and volume part"
+  pub same-polygon : (l : List ℕ) (n : ℕ) → decode l ≡ question n → accepts (held before end since) l ≡ true
+      → SameButStamp (step (held before end since) l .answer) (step (freshHeld (correctedBy before since)) l .answer)
+  same-polygon = question-fresh before end since s
+
+  -- "Each polygon's stamp is the number of the last correction accepted in that span that turned it or moved a point its ring lists, zero if there was none."
+  pub stamp : (n : ℕ) → n < length (loadedBy before .polygons) → getD (buildingOf (held before end since) .stamps) n 0 ≡ stampOf (correctionsOf before since) n (getD (loadedBy before .polygons) n [])
+  stamp = stamp-is before end since s
+
+  -- "In that span a correction numbered no higher than the last one accepted in it is refused"
+  pub late-refused : (l : List ℕ) (number : ℕ) → Numbered (decode l) number → number ≤ lastNumber (correctionsOf before since) → refusal (held before end since) (decode l) ≡ Late
+  late-refused = late-correction before end since s
+
+-- "and striking out all refused frames changes no other answer."
+pub strike-out : (stream left : List ℕ) → lines left ≡ struck nothing (lines stream) → answers left ≡ joined (acceptedAnswers nothing (lines stream))
+strike-out = struck-stream

@@ -86,14 +86,23 @@ built rings = record { tolerance = 0; points = corners; polygons = rings }
 abbrev pub says : Verdict → ℤ → Report
 says v volume = record { check = v; faults = 0; volume = volume }
 
--- an example: a ring's finding, or a building's report
+-- the points of an open ring whose part is not negated by turning
+abbrev pub uneven : List Point
+uneven = place (mm 0) (mm 0) (mm 0) ∷ place (mm 1) (mm 0) (mm 5) ∷ place (mm 1) (mm 1) (mm 7) ∷ place (mm 5) (mm 9) (mm 1) ∷ []
+
+abbrev pub unclosed : Polygon
+unclosed = 1 ∷ 2 ∷ 3 ∷ 0 ∷ []
+
+-- an example: a ring's finding, a ring's part, or a building's report
 pub data Example : Type 0 where
   ring : ℕ → List Point → Polygon → Finding → Example
+  parted : List Point → Polygon → ℤ → Example
   building : List Polygon → Report → Example
 
 -- what an example claims
 abbrev pub Claim : Example → Type 0
 Claim (ring tolerance points r f) = finding tolerance points r ≡ f
+Claim (parted points r z) = part points r ≡ z
 Claim (building rings r) = report (built rings) ≡ r
 
 -- all of a list of claims
@@ -101,7 +110,7 @@ abbrev pub All : List Example → Type 0
 All [] = Unit {0}
 All (e ∷ es) = Claim e × All es
 
--- the examples marked P
+-- the examples marked P; and an open ring, of which turning does not negate the part
 abbrev pub examples : List Example
 examples =
     ring 10 (tilted 20) four Sound ∷
@@ -115,8 +124,10 @@ examples =
     building (map reverse tetrahedron) (says Inward (negsuc 999999999)) ∷
     building three (says (Unsound (Few 3)) (pos 0)) ∷
     building [] (says (Unsound (Few 0)) (pos 0)) ∷
+    parted uneven unclosed (negsuc 41) ∷
+    parted uneven (reverse unclosed) (pos 0) ∷
     []
 
 pub examples-hold : All examples
 unfolding everything-computes
-examples-hold = (refl, (refl, (refl, (refl, (refl, (refl, (refl, (refl, (refl, (refl, (refl, tt)))))))))))
+examples-hold = (refl, (refl, (refl, (refl, (refl, (refl, (refl, (refl, (refl, (refl, (refl, (refl, (refl, tt)))))))))))))

@@ -51,12 +51,12 @@ struct Edge {
 pub fn lists(ring: &[u16], n: u16) -> bool
     ensures { λ r. ⌜ r ≡ lists n (now (ring .entry)) ⌝ }
 {
-    let mut i: usize = 0;
-    while i < ring.len() {
-        if n == ring[i] {
+    let mut k: usize = 0;
+    while k < ring.len() {
+        if n == ring[k] {
             return true;
         }
-        i += 1;
+        k += 1;
     }
     false
 }
@@ -144,12 +144,12 @@ pub fn part_of(points: &[i64; 1536], ring: &[u16]) -> i64
     }
     let first = ring[0];
     let mut last = first;
-    let mut i: usize = 1;
-    while i < n {
-        let next = ring[i];
+    let mut j: usize = 1;
+    while j < n {
+        let next = ring[j];
         sum += determinant_of(points, first, last, next);
         last = next;
-        i += 1;
+        j += 1;
     }
     sum
 }

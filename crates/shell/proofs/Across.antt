@@ -1,18 +1,16 @@
 -- What the table tells of the rings that it was built from: how often each edge is used, and what is reached across pairs of words.
-use Prim.Native.Nat.{ℕ, zero, suc, _+_, _-_, _/_, _%_, _≤_, _<_, zero-le, suc-le-suc}
-use native.Mathlib.Nat.{le-refl, le-of-suc-le-suc, not-suc-le-zero}
+use Prim.Native.Nat.{ℕ, _+_, _-_, _%_, _≤_, _<_}
+use native.Mathlib.Nat.{le-refl}
 use native.Mathlib.Numerals.{add-one}
-use native.Mathlib.Decide.{ℕ-discrete, decLt}
+use native.Mathlib.Decide.{decLt}
 use native.Mathlib.Omega.{arith}
 use mathlib.Core.Path.{_≡_, refl, sym, ap, subst, _∙_}
-use mathlib.Core.Bool.{Bool, true, false}
-use mathlib.Core.Logic.{_⊎_, inl, inr, ⊎-elim, _≢_, by-cases}
-use mathlib.Core.List.{List, [], _∷_, map}
+use mathlib.Core.Logic.{_⊎_, inl, inr, by-cases}
+use mathlib.Core.List.{List, [], map}
 use mathlib.Core.Option.{Option, none, some}
-use lib.Dec.{eqb}
+use borrow.Author.Tests.{eq-eqb}
 use lib.ListN.{length, getD, length-map}
-use Rattle.whole.specs.Lists.{tally, tab}
-use Rattle.shell.specs.Edges.{edge, edgesOf, all, count, usedOnce, usedOften}
+use Rattle.shell.specs.Edges.{edge, edgesOf, count, usedOnce, usedOften}
 use Rattle.shell.specs.Reach.{Reach, start, step}
 use Rattle.shell.specs.Shell.{notReached}
 use Rattle.shell.specs.Closure.{In}
@@ -20,10 +18,10 @@ use Rattle.shell.specs.Tabs.{length-tab, getD-tab}
 use Rattle.shell.specs.Held.{ringAt, rings}
 use Rattle.shell.specs.Table.{keyOf, polyOf, wordsTo, ascending, stepWord}
 use Rattle.shell.specs.Kept.{Loaded}
-use Rattle.shell.specs.Tallies.{tally-map, in-place, place-in}
-use Rattle.shell.specs.Ascending.{Asc, asc-ascending, tally-ascending, in-ascending, ascending-in}
+use Rattle.shell.specs.Tallies.{in-tally, in-place, place-in}
+use Rattle.shell.specs.Ascending.{asc-ascending, tally-ascending, in-ascending, ascending-in}
 use Rattle.shell.specs.Marking.{Least, LeastAt, Between, Joined, LowestCut}
-use Rattle.shell.specs.Adequate.{Is, is-some, is-none, uses, once-is, often-is, apart-is, Shares, Unreached, ring-below, in-all, used}
+use Rattle.shell.specs.Adequate.{reach-by, edge-nil, Is, is-some, is-none, uses, once-is, often-is, apart-is, Shares, Unreached, ring-below}
 use Rattle.shell.proofs.Uses.{Use, words-use, use-words, step-use, use-key, use-poly, keys-all, ring-edges, in-span, span-in}
 use Rattle.shell.proofs.Runs.{key-at}
 use Rattle.shell.proofs.Pairs.{Pairs, pairs, pairs-even, pairs-same, ofEdge, tally-keys}
@@ -71,7 +69,7 @@ module _ (es st : List ℕ) (n : ℕ) (l : Loaded es st n) where
   all-pairs a b = pairs table (asc-ascending (wordsTo es st n)) (λ x i. sym (tally-keys (keyOf x) table) ∙ two (keyOf x) (some-use x i))
     where
       some-use : (x : ℕ) → In x table → 1 ≤ uses rs (keyOf x)
-      some-use x i = subst (λ (k : ℕ). 1 ≤ k) (key-count (keyOf x)) (subst (λ (k : ℕ). 1 ≤ k) (sym (tally-keys (keyOf x) table)) (Rattle.shell.specs.Tallies.in-tally (ofEdge (keyOf x)) x table i (borrow.Author.Tests.eq-eqb (keyOf x) (keyOf x) refl)))
+      some-use x i = subst (λ (k : ℕ). 1 ≤ k) (key-count (keyOf x)) (subst (λ (k : ℕ). 1 ≤ k) (sym (tally-keys (keyOf x) table)) (in-tally (ofEdge (keyOf x)) x table i (eq-eqb (keyOf x) (keyOf x) refl)))
 
       two : (e : ℕ) → 1 ≤ uses rs e → count e (map keyOf table) ≡ 2
       two e h = key-count e ∙ exactly (uses rs e) h (λ z. once-is rs .missing a e z) (λ z. often-is rs .missing b e z)
@@ -98,20 +96,19 @@ module _ (es st : List ℕ) (n : ℕ) (l : Loaded es st n) where
       let u = place-use i h in
       rw (use-key es st n l (getD table i 0) u, use-poly es st n l (getD table i 0) u) (use-edge (getD table i 0) u)
 
+  inner : (a b k : ℕ) → k < a + (b - a - 1) → a ≤ k → k + 1 < b
+  inner a b k h g = omega arith
+
+  step-edge : (e p i : ℕ) (h : p < n) (f : getD st p 0 ≤ i) (t : i + 1 < getD st (p + 1) 0) → e ≡ edge (getD es i 0) (getD es (i + 1) 0) → (j : ℕ) × (j < length table) × (getD table j 0 ≡ stepWord es p (getD st p 0) (getD st (p + 1) 0) i) → (i : ℕ) × (i < length table) × (keyOf (getD table i 0) ≡ e) × (polyOf (getD table i 0) ≡ p)
+  step-edge e p i h f t q j = (j .0, j .1, ap keyOf (j .2) ∙ (use-key es st n l (stepWord es p (getD st p 0) (getD st (p + 1) 0) i) (step-use es st n l p i h f t) ∙ sym q), ap polyOf (j .2) ∙ use-poly es st n l (stepWord es p (getD st p 0) (getD st (p + 1) 0) i) (step-use es st n l p i h f t))
+
+  ring-edge : (e p : ℕ) → p < n → (k : ℕ) × (getD st p 0 ≤ k) × (k < getD st p 0 + (getD st (p + 1) 0 - getD st p 0 - 1)) × (e ≡ edge (getD es k 0) (getD es (k + 1) 0)) → (i : ℕ) × (i < length table) × (keyOf (getD table i 0) ≡ e) × (polyOf (getD table i 0) ≡ p)
+  ring-edge e p h (k, f, t, q) = step-edge e p k h f (inner (getD st p 0) (getD st (p + 1) 0) k t f) q (step-place p k h f (inner (getD st p 0) (getD st (p + 1) 0) k t f))
+
   pub edge-place : (e p : ℕ) → In e (edgesOf (getD rs p [])) → (i : ℕ) × (i < length table) × (keyOf (getD table i 0) ≡ e) × (polyOf (getD table i 0) ≡ p)
   edge-place e p i =
-      let h : p < n = subst (λ (k : ℕ). p < k) rings-length (ring-below rs p (λ ring. In e (edgesOf ring)) (none-in e) i) in
-      let k = in-span (λ i. edge (getD es i 0) (getD es (i + 1) 0)) e (getD st p 0) (getD st (p + 1) 0 - getD st p 0 - 1) (rw (ring-is p h, ring-edges es st n l p h) at i) in
-      let t : k .0 + 1 < getD st (p + 1) 0 = inner (getD st p 0) (getD st (p + 1) 0) (k .0) (k .2) (k .1) in
-      let j = step-place p (k .0) h (k .1) t in
-      let u = step-use es st n l p (k .0) h (k .1) t in
-      (j .0, j .1, ap keyOf (j .2) ∙ (use-key es st n l _ u ∙ sym (k .3)), ap polyOf (j .2) ∙ use-poly es st n l _ u)
-    where
-      none-in : (e : ℕ) → In e (edgesOf []) → ⊥
-      none-in e i = Rattle.shell.specs.Adequate.edge-nil e i
-
-      inner : (a b k : ℕ) → k < a + (b - a - 1) → a ≤ k → k + 1 < b
-      inner a b k h g = omega arith
+      let h : p < n = subst (λ (k : ℕ). p < k) rings-length (ring-below rs p (λ ring. In e (edgesOf ring)) (edge-nil e) i) in
+      ring-edge e p h (in-span (λ i. edge (getD es i 0) (getD es (i + 1) 0)) e (getD st p 0) (getD st (p + 1) 0 - getD st p 0 - 1) (rw (ring-is p h, ring-edges es st n l p h) at i))
 
   -- 0B, where the words stand in pairs
   module _ (two : Pairs table) where
@@ -153,7 +150,7 @@ module _ (es st : List ℕ) (n : ℕ) (l : Loaded es st n) where
 
     module _ (r : ℕ) (c : LowestCut table n r) where
       reached : (k : ℕ) → k < r → Unreached rs k → ⊥
-      reached k h u = u .cut (Rattle.shell.specs.Adequate.reach-by joined-shares (c .before k h))
+      reached k h u = u .cut (reach-by joined-shares (c .before k h))
 
       pub apart-found : r < n → notReached rs ≡ some r
       apart-found h = is-some (apart-is rs) (record {

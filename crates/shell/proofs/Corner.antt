@@ -1,27 +1,27 @@
 -- The corners of the rings, as `Fans` asks them, from the pairs of the table.
-use Prim.Native.Nat.{ℕ, zero, suc, _+_, _-_, _/_, _%_, _≤_, _<_, min, max, zero-le}
-use native.Mathlib.Nat.{le-refl, not-suc-le-zero, zero-add}
+use Prim.Native.Nat.{ℕ, zero, suc, _+_, _-_, _%_, _≤_, _<_, min, max}
+use native.Mathlib.Nat.{le-refl}
 use native.Mathlib.Decide.{ℕ-discrete, decLt}
 use native.Mathlib.Omega.{arith}
 use mathlib.Core.Path.{_≡_, refl, sym, ap, subst, _∙_}
 use mathlib.Core.Bool.{Bool, true, false}
-use mathlib.Core.Logic.{_⊎_, inl, inr, ⊎-elim, _≢_, by-cases}
-use mathlib.Core.List.{List, [], _∷_}
-use mathlib.Core.Option.{Option, none, some}
+use mathlib.Core.Logic.{_⊎_, inl, inr, ⊎-elim, by-cases}
+use mathlib.Core.List.{List, []}
+use mathlib.Core.Option.{none, some}
 use borrow.Author.Tests.{leb-true, leb-false, eqb-true, eqb-false}
 use lib.Dec.{eqb, leb}
-use lib.ListN.{length, getD, take, drop, length-take, length-drop}
+use lib.ListN.{length, getD, drop, length-take, length-drop}
 use lib.Seq.{getD-take, getD-drop}
-use Rattle.shell.specs.Edges.{edge, edgesOf, smaller, larger}
+use Rattle.shell.specs.Edges.{edgesOf, smaller, larger}
 use Rattle.shell.specs.EdgeLaws.{smaller-edge, larger-edge}
-use Rattle.shell.specs.Reach.{Reach, start, step}
+use Rattle.shell.specs.Reach.{Reach, start}
 use Rattle.shell.specs.Shell.{notLinked}
 use Rattle.shell.specs.Closure.{In}
 use Rattle.shell.specs.Held.{ringAt, rings}
-use Rattle.shell.specs.Table.{keyOf, polyOf, stepOf, nextOf, dirOf, nextAt, stepWord, wordsTo, ascending}
-use Rattle.shell.specs.Kept.{Sound, Loaded}
+use Rattle.shell.specs.Table.{keyOf, polyOf, stepOf, nextOf, dirOf, nextAt, wordsTo, ascending}
+use Rattle.shell.specs.Kept.{Loaded}
 use Rattle.shell.specs.Tallies.{in-place, place-in}
-use Rattle.shell.specs.Marking.{Least, LeastBelow, Joined, Joins, Marked, Flooded, Seeds, Cut, Unlinks, pick, lowOf, highOf, nodeOf}
+use Rattle.shell.specs.Marking.{Joined, Joins, Marked, Flooded, Seeds, Cut, Unlinks, pick, lowOf, highOf}
 use Rattle.shell.specs.Adequate.{is-some, is-none, Around, Ends, Pinched, unlinked-is, reach-by, around-even, ring-below}
 use Rattle.shell.proofs.Nodes.{pick-then, pick-else}
 use Rattle.shell.proofs.Uses.{Use, step-use, use-key, use-poly, use-step, use-next, use-dir, ring-long, ring-within, entry-small}

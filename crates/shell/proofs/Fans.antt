@@ -1,10 +1,8 @@
 -- Check 0C by one flood over corners. A corner is an entry of a ring: it has a point and a polygon. Links join corners of one point
 -- whose polygons are linked across an edge that ends there.
-use Prim.Native.Nat.{ℕ, zero, suc, _+_, _-_, _≤_, _<_}
-use native.Mathlib.Decide.{ℕ-discrete, decLt}
-use native.Mathlib.Omega.{arith}
+use Prim.Native.Nat.{ℕ}
 use mathlib.Core.Path.{_≡_, refl, sym, ap, subst, _∙_}
-use mathlib.Core.Logic.{_⊎_, inl, inr, ⊎-elim, _≢_, by-cases}
+use mathlib.Core.Logic.{_⊎_, ⊎-elim}
 use Rattle.shell.specs.Reach.{Reach, start, step}
 use Rattle.shell.specs.Adequate.{reach-trans, reach-sym}
 use Rattle.shell.proofs.Sweeps.{reach-map}

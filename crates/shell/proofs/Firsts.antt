@@ -1,17 +1,16 @@
 -- One corner of each point, and the lowest point with a corner that has no mark.
-use Prim.Native.Nat.{ℕ, zero, suc, _+_, _-_, _≤_, _<_, zero-le}
-use native.Mathlib.Nat.{not-suc-le-zero, suc-ne-zero, le-refl, lt-irrefl}
-use native.Mathlib.Decide.{ℕ-discrete, decLt}
+use Prim.Native.Nat.{ℕ, _+_, _≤_, _<_}
+use native.Mathlib.Nat.{not-suc-le-zero, le-refl, lt-irrefl}
 use native.Mathlib.Omega.{arith}
-use mathlib.Core.Path.{_≡_, refl, sym, ap, subst, _∙_}
-use mathlib.Core.Logic.{_⊎_, inl, inr, ⊎-elim, _≢_, by-cases}
+use mathlib.Core.Path.{_≡_, refl, sym, ap, _∙_}
+use mathlib.Core.Logic.{_⊎_, inl, inr, ⊎-elim, _≢_}
 use mathlib.Core.List.{List}
 use borrow.Author.Count.{below-more}
-use lib.ListN.{length, getD, set, length-set, List·getD-eq-default}
+use lib.ListN.{length, getD, set, length-set}
 use lib.Seq.{getD-set-same}
-use Rattle.shell.specs.Reach.{Reach, start, step}
+use Rattle.shell.specs.Reach.{start}
 use Rattle.shell.specs.Table.{stepOf, polyOf}
-use Rattle.shell.specs.Marking.{Marks, Marked, Blank, Pointed, pointOf, Seeds, Cut, Least, LeastBelow, Flooded, Joined, Joins, LowestBare, LowestCut}
+use Rattle.shell.specs.Marking.{Marks, Marked, Blank, Pointed, Seeds, Cut, LeastBelow, Flooded, Joined, Joins, LowestBare, LowestCut}
 use Rattle.shell.proofs.Sweeps.{at-set, reach-map}
 
 -- what holds after i turns of `seeds`

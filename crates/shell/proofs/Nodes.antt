@@ -1,11 +1,11 @@
 -- The nodes of a word, and the first marks.
-use Prim.Native.Nat.{ℕ, zero, suc, _+_, _*_, _-_, _/_, _%_, _≤_, _<_}
+use Prim.Native.Nat.{ℕ, zero, suc, _≤_, _<_}
 use native.Mathlib.Decide.{decLt}
 use native.Mathlib.Omega.{arith}
-use mathlib.Core.Path.{_≡_, refl, sym, ap, subst, _∙_}
+use mathlib.Core.Path.{_≡_, refl}
 use mathlib.Core.Logic.{by-cases}
-use lib.ListN.{length, getD, replicate, length-replicate, getD-replicate, List·getD-eq-default}
-use Rattle.shell.specs.Table.{polyOf, stepOf, nextOf, dirOf}
+use lib.ListN.{length, replicate, length-replicate, getD-replicate, List·getD-eq-default}
+use Rattle.shell.specs.Table.{polyOf}
 use Rattle.shell.specs.Marking.{pick, lowOf, highOf, nodeOf, Blank}
 
 pub pick-else : (d a b : ℕ) → (d ≡ 0 → ⊥) → b ≡ pick d a b

@@ -1,11 +1,11 @@
 -- Where each edge is used twice, the words of the table stand in pairs.
-use Prim.Native.Nat.{ℕ, zero, suc, _+_, _-_, _/_, _%_, _≤_, _<_, zero-le, suc-le-suc}
-use native.Mathlib.Nat.{le-refl, le-of-suc-le-suc, not-suc-le-zero}
-use native.Mathlib.Decide.{ℕ-discrete, decLt}
+use Prim.Native.Nat.{ℕ, zero, suc, _+_, _%_, _≤_, _<_}
+use native.Mathlib.Nat.{le-of-suc-le-suc, not-suc-le-zero}
+use native.Mathlib.Decide.{ℕ-discrete}
 use native.Mathlib.Omega.{arith}
-use mathlib.Core.Path.{_≡_, refl, sym, ap, subst, _∙_}
-use mathlib.Core.Bool.{Bool, true, false}
-use mathlib.Core.Logic.{_⊎_, inl, inr, ⊎-elim, _≢_, by-cases}
+use mathlib.Core.Path.{_≡_, refl, sym, ap, _∙_}
+use mathlib.Core.Bool.{Bool}
+use mathlib.Core.Logic.{inl, inr, _≢_, by-cases}
 use mathlib.Core.List.{List, [], _∷_, map}
 use borrow.Author.Tests.{eq-eqb, ne-eqb, eqb-true}
 use lib.Dec.{eqb}
@@ -19,7 +19,7 @@ use Rattle.shell.specs.Ascending.{Asc}
 
 -- words two by two, each two of one edge, and each two of an edge above those before
 pub data Pairs : List ℕ → Type 0 where
-  none : Pairs []
+  empty : Pairs []
   pair : {w v : ℕ} {l : List ℕ} → keyOf w ≡ keyOf v → ((x : ℕ) → In x l → keyOf w < keyOf x) → Pairs l → Pairs (w ∷ v ∷ l)
 
 -- whether a word is of the edge k
@@ -40,7 +40,7 @@ key-le : (x y : ℕ) → x ≤ y → keyOf x ≤ keyOf y
 key-le x y h = omega arith
 
 pub pairs : (l : List ℕ) → Asc l → ((x : ℕ) → In x l → tally (ofEdge (keyOf x)) l ≡ 2) → Pairs l
-pairs [] a h = none
+pairs [] a h = empty
 pairs (w ∷ []) a h = absurd (alone (h w (inl refl)))
   where
     alone : tally (ofEdge (keyOf w)) (w ∷ []) ≡ 2 → ⊥
@@ -82,7 +82,7 @@ pairs (w ∷ v ∷ l) a h = by-cases (ℕ-discrete (keyOf v) (keyOf w)) (λ e. t
 
 -- the two at an even place and the next are of one edge
 pub pairs-even : {l : List ℕ} → Pairs l → (i : ℕ) → i % 2 ≡ 0 → suc i < length l → keyOf (getD l i 0) ≡ keyOf (getD l (suc i) 0)
-pairs-even none i e h = absurd (not-suc-le-zero h)
+pairs-even empty i e h = absurd (not-suc-le-zero h)
 pairs-even (pair q a p) zero e h = q
 pairs-even (pair q a p) (suc zero) e h = absurd (odd e)
   where
@@ -95,7 +95,7 @@ pairs-even (pair q a p) (suc (suc i)) e h = pairs-even p i (even i e) (le-of-suc
 
 -- two words of one edge are such two
 pub pairs-same : {l : List ℕ} → Pairs l → (i j : ℕ) → i < j → j < length l → keyOf (getD l i 0) ≡ keyOf (getD l j 0) → (i % 2 ≡ 0) × (j ≡ suc i)
-pairs-same none i j h k e = absurd (not-suc-le-zero k)
+pairs-same empty i j h k e = absurd (not-suc-le-zero k)
 pairs-same (pair q a p) zero zero h k e = absurd (not-suc-le-zero h)
 pairs-same (pair q a p) zero (suc zero) h k e = (refl, refl)
 pairs-same (pair {w = w} {v = v} {l = l} q a p) zero (suc (suc j)) h k e = absurd (above w (getD l j 0) (a (getD l j 0) (place-in l j (le-of-suc-le-suc (le-of-suc-le-suc k)))) e)

@@ -1,13 +1,12 @@
 -- How often a number stands in a sorted list, by its runs.
 use Prim.Native.Nat.{ℕ, zero, suc, _+_, _-_, _≤_, _<_, zero-le, suc-le-suc}
-use native.Mathlib.Nat.{le-refl, le-trans, le-antisymm, le-of-eq, le-of-lt, le-of-suc-le-suc, not-suc-le-zero, suc-ne-zero, zero-add}
+use native.Mathlib.Nat.{le-antisymm, le-of-suc-le-suc, not-suc-le-zero}
 use native.Mathlib.Decide.{ℕ-discrete, decLt}
 use native.Mathlib.Omega.{arith}
-use mathlib.Core.Path.{_≡_, refl, sym, ap, subst, _∙_}
-use mathlib.Core.Bool.{Bool, true, false}
-use mathlib.Core.Logic.{_⊎_, inl, inr, ⊎-elim, _≢_, by-cases}
+use mathlib.Core.Path.{_≡_, refl, sym, ap, _∙_}
+use mathlib.Core.Logic.{_≢_, by-cases}
 use mathlib.Core.List.{List, [], _∷_, map}
-use borrow.Author.Tests.{eqb-true, eqb-false, eq-eqb, ne-eqb}
+use borrow.Author.Tests.{eq-eqb, ne-eqb}
 use lib.Dec.{eqb}
 use lib.ListN.{length, getD, length-map, List·getD-map}
 use Rattle.shell.specs.Edges.{count}
@@ -15,7 +14,7 @@ use Rattle.shell.specs.Tallies.{tally-cons, tally-nil, one-yes, one-no}
 use Rattle.shell.specs.Table.{keyOf}
 use Rattle.shell.specs.Ascending.{Asc, places-asc}
 use Rattle.shell.specs.Steps.{SortedTo}
-use Rattle.shell.specs.Marking.{RunEnd, Between, Least, LeastAt}
+use Rattle.shell.specs.Marking.{RunEnd, Between, LeastAt}
 
 -- a list's count of k, by whether its head is k
 pub count-yes : (k x : ℕ) (l : List ℕ) → x ≡ k → count k (x ∷ l) ≡ suc (count k l)

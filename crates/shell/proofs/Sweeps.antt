@@ -1,5 +1,5 @@
 -- Marks over nodes: what a store does, and what one turn of a sweep keeps.
-use Prim.Native.Nat.{ℕ, zero, suc, _+_, _-_, _*_, _%_, _≤_, _<_, zero-le, suc-le-suc}
+use Prim.Native.Nat.{ℕ, zero, suc, _+_, _*_, _%_, _≤_, _<_, zero-le, suc-le-suc}
 use native.Mathlib.Nat.{le-refl, le-of-suc-le-suc, not-suc-le-zero, suc-ne-zero}
 use native.Mathlib.Decide.{ℕ-discrete, decLt}
 use native.Mathlib.Omega.{arith}
@@ -9,7 +9,7 @@ use mathlib.Core.List.{List, [], _∷_}
 use lib.ListN.{length, getD, set, length-set}
 use lib.Seq.{getD-set-same, getD-set-other}
 use Rattle.shell.specs.Reach.{Reach, start, step}
-use Rattle.shell.specs.Marking.{Marked, Marks, Joined, Joins, nodeOf, zeros, Swept, Flooded}
+use Rattle.shell.specs.Marking.{Marked, Marks, Joined, zeros, Swept, Flooded}
 
 -- an element after a store: the stored one, or the old one
 pub at-set : (l : List ℕ) (i a j : ℕ) → i < length l → ((j ≡ i) × (getD (set l i a) j 0 ≡ a)) ⊎ ((j ≢ i) × (getD (set l i a) j 0 ≡ getD l j 0))

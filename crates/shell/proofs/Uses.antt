@@ -1,25 +1,23 @@
 -- The words of the rings: what each of them tells, and that each step of a ring has one.
-use Prim.Native.Nat.{ℕ, zero, suc, _+_, _*_, _-_, _/_, _%_, _≤_, _<_, min, max, zero-le, suc-le-suc}
-use native.Mathlib.Decide.{ℕ-discrete, decLt}
+use Prim.Native.Nat.{ℕ, zero, suc, _+_, _*_, _-_, _/_, _%_, _≤_, _<_, min}
+use native.Mathlib.Decide.{ℕ-discrete}
 use native.Mathlib.Omega.{arith}
-use native.Mathlib.Nat.{le-refl, le-of-eq, le-antisymm, not-suc-le-zero}
+use native.Mathlib.Nat.{le-refl, not-suc-le-zero}
 use native.Mathlib.Numerals.{add-one}
 use mathlib.Core.Path.{_≡_, refl, sym, ap, ap₂, subst, _∙_}
 use mathlib.Core.Bool.{Bool, true, false}
-use mathlib.Core.Logic.{_⊎_, inl, inr, ⊎-elim, _≢_, by-cases}
-use mathlib.Core.List.{List, [], _∷_, _++_, map}
-use borrow.Author.Tests.{eq-eqb, ne-eqb, eqb-true}
+use mathlib.Core.Logic.{inl, inr, ⊎-elim, by-cases}
+use mathlib.Core.List.{List, [], _∷_, _++_, map, append-nil, append-assoc}
 use lib.Dec.{eqb}
-use lib.ListN.{length, getD, take, drop, length-append, length-take, length-drop, List·getD-append}
-use lib.Seq.{drop-cons, getD-append-add, getD-take, getD-drop, length-take-le}
+use lib.ListN.{length, getD, take, drop, length-take}
+use lib.Seq.{drop-cons}
 use Rattle.whole.specs.Lists.{steps, stepsFrom, tab}
 use Rattle.shell.specs.Edges.{edge, way, edgesOf, waysOf, all}
 use Rattle.shell.specs.Closure.{In}
 use Rattle.shell.specs.Tallies.{in-left, in-right, in-either}
-use Rattle.shell.specs.Tabs.{length-tab, getD-tab}
-use Rattle.shell.specs.Held.{ringAt, rings, Starts, Entries}
+use Rattle.shell.specs.Held.{ringAt, rings}
 use Rattle.shell.specs.Table.{keyOf, polyOf, stepOf, nextOf, dirOf, wordOf, stepWord, nextAt, span, ringWords, wordsTo}
-use Rattle.shell.specs.Kept.{Sound, Loaded}
+use Rattle.shell.specs.Kept.{Loaded}
 use Rattle.shell.specs.Steps.{Rising}
 
 -- ---- the fields of a word
@@ -72,8 +70,8 @@ span-in f i (suc n) k a b = by-cases (ℕ-discrete k i) (λ e. inl (ap f e)) (λ
 
 pub all-append : (f : List ℕ → List ℕ) (rs : List (List ℕ)) (r : List ℕ) → all f (rs ++ (r ∷ [])) ≡ all f rs ++ f r
 unfolding all
-all-append f [] r = mathlib.Core.List.append-nil (f r)
-all-append f (s ∷ rs) r = ap (λ (l : List ℕ). f s ++ l) (all-append f rs r) ∙ sym (mathlib.Core.List.append-assoc (f s) (all f rs) (f r))
+all-append f [] r = append-nil (f r)
+all-append f (s ∷ rs) r = ap (λ (l : List ℕ). f s ++ l) (all-append f rs r) ∙ sym (append-assoc (f s) (all f rs) (f r))
 
 -- ---- the steps of a part of the entries
 abbrev pub pairAt : List ℕ → ℕ → ℕ × ℕ

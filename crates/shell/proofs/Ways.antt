@@ -1,31 +1,31 @@
 -- The ways that the rings go now, by the words of the table and the flags of the polygons, and check 0A.
-use Prim.Native.Nat.{ℕ, zero, suc, _+_, _*_, _-_, _/_, _%_, _≤_, _<_, min, max, zero-le, suc-le-suc}
-use native.Mathlib.Nat.{le-refl, not-suc-le-zero}
+use Prim.Native.Nat.{ℕ, zero, suc, _+_, _-_, _%_, _≤_, _<_, min, max}
+use native.Mathlib.Nat.{le-refl}
 use native.Mathlib.Decide.{ℕ-discrete, decLt}
 use native.Mathlib.Omega.{arith}
 use mathlib.Core.Path.{_≡_, refl, sym, ap, ap₂, subst, _∙_}
 use mathlib.Core.Bool.{Bool, true, false}
 use mathlib.Core.Logic.{_⊎_, inl, inr, ⊎-elim, _≢_, by-cases}
-use mathlib.Core.List.{List, [], _∷_, _++_, map, reverse}
-use mathlib.Core.Option.{Option}
+use mathlib.Core.List.{List, [], _∷_, map, reverse}
+use mathlib.Core.Option.{Option, none, some}
 use borrow.Author.Tests.{eqb-true, eqb-false, eq-eqb, ne-eqb}
 use lib.Dec.{eqb}
-use lib.ListN.{length, getD}
+use lib.ListN.{getD}
 use Rattle.whole.specs.Lists.{steps, tally, tab}
 use Rattle.whole.specs.Reverse.{back, steps-reverse}
 use Rattle.shell.specs.Edges.{way, edge, smaller, larger, waysOf, all, count, usedAlike}
 use Rattle.shell.specs.EdgeLaws.{smaller-edge, larger-edge}
 use Rattle.shell.specs.Closure.{In}
-use Rattle.shell.specs.Held.{ringAt, rings}
+use Rattle.shell.specs.Held.{ringAt}
 use Rattle.shell.specs.Table.{keyOf, polyOf, dirOf, stepWord, span, ringWords, wordsTo, ascending, nextAt}
 use Rattle.shell.specs.Kept.{Loaded, turn, turnedRings, headingOf, alikeIn}
-use Rattle.shell.specs.Tallies.{one, one-yes, one-no, tally-nil, tally-cons, tally-map, tally-append, tally-reverse, in-tally, tally-in, in-place}
+use Rattle.shell.specs.Tallies.{one, one-yes, one-no, tally-nil, tally-cons, tally-map, tally-append, tally-reverse, tally-in}
 use Rattle.shell.specs.Ascending.{tally-ascending, in-ascending}
-use Rattle.shell.specs.Adequate.{Is, is-same, goes, uses, SameWay, alike-is}
+use Rattle.shell.specs.Adequate.{Is, is-same, goes, uses, alike-is}
 use Rattle.shell.specs.Marking.{Least}
 use Rattle.shell.specs.Turned.{turned-rings, uses-turned}
 use Rattle.shell.proofs.Uses.{Use, step-use, words-use, use-key, use-poly, use-dir, ring-ways, ring-steps, ring-long, entry-small, map-span, span-same, all-append, pairAt}
-use Rattle.shell.proofs.Pairs.{Pairs, pair, ofEdge, tally-keys}
+use Rattle.shell.proofs.Pairs.{Pairs, empty, pair, ofEdge, tally-keys}
 use Rattle.shell.proofs.Across.{key-count}
 use Rattle.shell.proofs.Corner.{one-corner, node-at, owned, After, after}
 
@@ -346,22 +346,22 @@ module _ (flags : List ℕ) where
 
   alike-in : {l : List ℕ} → Pairs l → ((x : ℕ) → In x l → Proper (keyOf x)) → Is (AlikeIn l) (alikeIn flags l)
   unfolding alikeIn
-  alike-in Rattle.shell.proofs.Pairs.none pr = record { found = λ x e. absurd (bad x e); missing = λ e x a. nothing x (a .0) }
+  alike-in empty pr = record { found = λ x e. absurd (bad x e); missing = λ e x a. nothing x (a .0) }
     where
-      bad : (x : ℕ) → _≡_ {A = Option ℕ} mathlib.Core.Option.none (mathlib.Core.Option.some x) → ⊥
+      bad : (x : ℕ) → _≡_ {A = Option ℕ} none (some x) → ⊥
       bad x e = let z : _≡_ {A = ℕ} 0 1 = cc in omega arith
 
       nothing : (x : ℕ) → 1 ≤ tally (ofEdge x) [] → ⊥
       nothing x h = omega (arith, tally-nil (ofEdge x))
   alike-in (pair {w = w} {v = v} {l = l} q above p) pr = go (eqb (headingOf flags w) (headingOf flags v)) refl (alike-in p (λ x i. pr x (inr (inr i))))
     where
-      bad : (x : ℕ) → _≡_ {A = Option ℕ} (mathlib.Core.Option.some x) mathlib.Core.Option.none → ⊥
+      bad : (x : ℕ) → _≡_ {A = Option ℕ} (some x) none → ⊥
       bad x e = let z : _≡_ {A = ℕ} 0 1 = cc in omega arith
 
-      inj : {x y : ℕ} → _≡_ {A = Option ℕ} (mathlib.Core.Option.some x) (mathlib.Core.Option.some y) → x ≡ y
+      inj : {x y : ℕ} → _≡_ {A = Option ℕ} (some x) (some y) → x ≡ y
       inj f = cc
 
-      go : (b : Bool) → eqb (headingOf flags w) (headingOf flags v) ≡ b → Is (AlikeIn l) (alikeIn flags l) → Is (AlikeIn (w ∷ v ∷ l)) (elim b as (λ _. Option ℕ) [ true ↦ mathlib.Core.Option.some (keyOf w) | false ↦ alikeIn flags l ])
+      go : (b : Bool) → eqb (headingOf flags w) (headingOf flags v) ≡ b → Is (AlikeIn l) (alikeIn flags l) → Is (AlikeIn (w ∷ v ∷ l)) (elim b as (λ _. Option ℕ) [ true ↦ some (keyOf w) | false ↦ alikeIn flags l ])
       go true e ih = record { found = λ x f. subst (λ (z : ℕ). Least (AlikeIn (w ∷ v ∷ l)) z) (inj f) (alike-here w v l q above pr (eqb-true (headingOf flags w) (headingOf flags v) e)); missing = λ f. absurd (bad (keyOf w) f) }
       go false e ih = is-as ih (later-alike w v l q above pr) (alike-later w v l q above pr (eqb-false (headingOf flags w) (headingOf flags v) e))
 

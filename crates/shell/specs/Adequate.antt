@@ -1,18 +1,18 @@
 -- What the definitions of Edges and Shell say in plain words: each names the least number that has a property, and none where no
 -- number has it. Reaching is `Reach`: along a path.
 use Prim.Native.Nat.{ℕ, zero, suc, _+_, _≤_, _<_, min, zero-le, suc-le-suc}
-use native.Mathlib.Nat.{le-refl, le-trans, le-antisymm, le-of-suc-le-suc, not-suc-le-zero}
+use native.Mathlib.Nat.{le-antisymm, le-of-suc-le-suc, not-suc-le-zero}
 use native.Mathlib.Decide.{ℕ-discrete, decLt}
 use native.Mathlib.Omega.{arith}
 use mathlib.Core.Path.{_≡_, refl, sym, ap, subst, _∙_}
 use mathlib.Core.Bool.{Bool, true, false, not, _&&_, _||_, true≢false}
 use mathlib.Core.Logic.{_⊎_, inl, inr, ⊎-elim, by-cases}
-use mathlib.Core.List.{List, [], _∷_, _++_, map}
+use mathlib.Core.List.{List, [], _∷_, map}
 use mathlib.Core.Option.{Option, none, some}
-use borrow.Author.Tests.{eqb-true, eq-eqb, ltb-true, lt-ltb, leb-true, le-leb, le-ltb}
+use borrow.Author.Tests.{eqb-true, eq-eqb, ltb-true, lt-ltb, leb-true, le-leb}
 use lib.Dec.{eqb, leb, ltb}
 use lib.ListN.{length, getD, List·getD-eq-default}
-use Rattle.whole.specs.Lists.{any, keep, lists, least, tally, numbered, numberedFrom}
+use Rattle.whole.specs.Lists.{any, keep, lists, least, numbered, numberedFrom}
 use Rattle.shell.specs.Edges.{edgesOf, waysOf, all, count, way, smaller, larger, leastUsed, usedOnce, usedOften, usedAlike}
 use Rattle.shell.specs.Reach.{Reach, start, step, rounds, unreached}
 use Rattle.shell.specs.Shell.{polygonsOf, shareEdge, notReached, endsAt, polygonsAt, unlinkedAt, notLinked}

@@ -1,21 +1,17 @@
 -- What is kept belongs to the rings when it has been built, and still does when a polygon is turned and its flag flipped.
-use Prim.Native.Nat.{ℕ, zero, suc, _+_, _-_, _≤_, _<_, zero-le, suc-le-suc}
-use native.Mathlib.Nat.{le-refl, not-suc-le-zero}
-use native.Mathlib.Decide.{ℕ-discrete, decLt}
+use Prim.Native.Nat.{ℕ, zero, suc, _-_, _≤_, _<_}
+use native.Mathlib.Decide.{ℕ-discrete}
 use native.Mathlib.Omega.{arith}
 use mathlib.Core.Path.{_≡_, refl, sym, ap, subst, _∙_}
-use mathlib.Core.Bool.{Bool, true, false}
-use mathlib.Core.Logic.{_≢_, by-cases}
-use mathlib.Core.List.{List, [], _∷_, _++_, reverse, reverse-reverse}
-use borrow.Author.Tests.{ltb-false, eqb-true}
-use lib.Dec.{eqb, ltb}
+use mathlib.Core.Logic.{by-cases}
+use mathlib.Core.List.{List, [], reverse, reverse-reverse}
 use lib.ListN.{length, getD, set, take, drop, length-append}
 use lib.Seq.{take-at, ext-getD, getD-set-same, getD-set-other}
-use Rattle.whole.specs.Lists.{any, anyTwo, at, tab, front, lastOf}
+use Rattle.whole.specs.Lists.{at, tab}
 use Rattle.shell.specs.declared.Shape.{Shape}
 use Rattle.shell.specs.Held.{ringAt, rings}
 use Rattle.shell.specs.Table.{wordsTo, tableOf, ascending}
-use Rattle.shell.specs.Kept.{Loaded, Built, Edged, Known, turn, turnedRings}
+use Rattle.shell.specs.Kept.{Loaded, Built, Edged, turn, turnedRings}
 use Rattle.shell.specs.Ascending.{length-ascending}
 use Rattle.shell.specs.Tabs.{length-tab, getD-tab, length-at, getD-at-same, getD-at-other}
 

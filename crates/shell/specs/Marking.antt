@@ -1,12 +1,12 @@
 -- What the single steps of the code leave: runs of an edge's words, and marks that spread across pairs of words.
-use Prim.Native.Nat.{ℕ, zero, suc, _+_, _*_, _-_, _/_, _%_, _≤_, _<_}
+use Prim.Native.Nat.{ℕ, zero, suc, _+_, _%_, _≤_, _<_}
 use mathlib.Core.Path.{_≡_}
 use mathlib.Core.Logic.{_⊎_}
 use mathlib.Core.List.{List, [], _∷_}
 use lib.ListN.{length, getD}
 use Rattle.shell.specs.Edges.{count}
 use Rattle.shell.specs.Reach.{Reach}
-use Rattle.shell.specs.Table.{keyOf, polyOf, stepOf, nextOf, dirOf}
+use Rattle.shell.specs.Table.{polyOf, stepOf, nextOf, dirOf}
 
 -- the run that begins at i ends before r
 pub record RunEnd (l : List ℕ) (i r : ℕ) : Type 0 where

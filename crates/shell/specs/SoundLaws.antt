@@ -1,5 +1,5 @@
 -- A ring that checks 01, 02 and 03 let pass, as those checks say it, is sound.
-use Prim.Native.Nat.{ℕ, zero, suc, _+_, _-_, _≤_, _<_, zero-le, suc-le-suc}
+use Prim.Native.Nat.{ℕ, zero, suc, _+_, _-_, _<_}
 use native.Mathlib.Nat.{le-of-suc-le-suc, not-suc-le-zero}
 use native.Mathlib.Omega.{arith}
 use mathlib.Core.Path.{_≡_, refl, sym, ap, subst, _∙_}
@@ -9,7 +9,7 @@ use borrow.Author.Tests.{ltb-false, eqb-true, eq-eqb}
 use lib.Dec.{eqb, ltb}
 use lib.ListN.{length, getD}
 use Rattle.whole.specs.Lists.{any, anyTwo, front, lastOf}
-use Rattle.shell.specs.Closure.{In, in-any}
+use Rattle.shell.specs.Closure.{in-any}
 use Rattle.shell.specs.Tallies.{place-in}
 use Rattle.shell.specs.Kept.{Sound}
 

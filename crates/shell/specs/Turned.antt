@@ -1,22 +1,19 @@
 -- Reversing any set of rings leaves checks 07, 08, 09, 0B and 0C, and their elements, as they are.
-use Prim.Native.Nat.{ℕ, zero, suc, _+_, _≤_, _<_, zero-le}
-use native.Mathlib.Omega.{arith}
+use Prim.Native.Nat.{ℕ, zero, suc, _+_, _<_}
 use mathlib.Core.Path.{_≡_, refl, sym, ap, ap₂, subst, _∙_}
-use mathlib.Core.Bool.{Bool, true, false}
-use mathlib.Core.List.{List, [], _∷_, _++_, map, reverse}
+use mathlib.Core.Bool.{Bool}
+use mathlib.Core.List.{List, [], _∷_, _++_, reverse}
 use mathlib.Core.Option.{Option·map}
 use lib.Dec.{eqb, ltb}
 use lib.ListN.{length, getD}
 use Rattle.whole.specs.Lists.{given, first, tally, at, tab}
-use Rattle.shell.specs.declared.Shape.{Shape}
-use Rattle.shell.specs.declared.Shape.the-variants.{Whole, Few, Once, Often, Alike, Apart, Unlinked}
+use Rattle.shell.specs.declared.Shape.the-variants.{Whole, Few, Once, Often, Apart, Unlinked}
 use Rattle.shell.specs.Edges.{edgesOf, all, count, usedOnce, usedOften}
 use Rattle.shell.specs.EdgeLaws.{edges-turned}
-use Rattle.shell.specs.Reach.{Reach}
 use Rattle.shell.specs.Shell.{notReached, notLinked, byEnds}
 use Rattle.shell.specs.Closure.{In}
 use Rattle.shell.specs.Tallies.{tally-append, tally-reverse, same-in}
-use Rattle.shell.specs.Adequate.{Is, is-same, uses, once-is, often-is, apart-is, unlinked-is, Shares, Unreached, Around, Pinched, reach-by}
+use Rattle.shell.specs.Adequate.{is-same, uses, once-is, often-is, apart-is, unlinked-is, Shares, Around, reach-by}
 use Rattle.shell.specs.Held.{ringAt, rings}
 use Rattle.shell.specs.Kept.{fixedShape, turn, turnedRings}
 

@@ -12,3 +12,4 @@ pub mod Sum
 pub mod Search
 pub mod First
 pub mod Places
+pub mod Agree

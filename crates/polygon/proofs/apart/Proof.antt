@@ -1,28 +1,22 @@
-use Rattle.polygon.proofs.Stretches.{apart-is}
-use Rattle.polygon.specs.Leaves.{least, most}
-use Rattle.whole.specs.Size.{call-is}
+-- `polygon::apart` meets its contract. The least and the largest of the one stretch stand for its ends.
+use mathlib.Core.Bool.{_&&_, _||_}
+use mathlib.Core.Path.{_∙_, ap₂}
 use mir.Facts.{toZ-ofZ}
 use mir.Syntax.{w64}
 use lib.Signed.{ltZ}
-use mathlib.Core.Bool.{_&&_, _||_}
-use mathlib.Core.Path.{_∙_, ap₂}
 use borrow.Author.Needs.{needs}
+use Rattle.whole.specs.Size.{call-is}
+use Rattle.polygon.specs.Leaves.{least, most}
+use Rattle.polygon.proofs.Stretches.{apart-is}
 use Rattle.polygon.proofs.apart.Statement.{statement}
 use Rattle.polygon.proofs.apart.Tie as tie
-use Rattle.polygon.proofs.apart.Reads as reads
-use Rattle.polygon.proofs.apart.Lts as lts
-use Rattle.polygon.proofs.lower.Reads as lower-reads
-use Rattle.polygon.proofs.upper.Reads as upper-reads
 
--- src/lib.rt:386:9
 lower-requires : tie.Need-lower-requires
 lower-requires c κs = search needs
 
--- src/lib.rt:387:9
 upper-requires : tie.Need-upper-requires
 upper-requires c κs = search needs
 
--- src/lib.rt:383:1
 returns : tie.Need-returns
 returns c =
     let f = c .before .before .fits in

@@ -1,17 +1,15 @@
-use Rattle.polygon.proofs.Pairs.{edges, row-here, row-next, row-end}
-use Rattle.polygon.specs.Leaves.{edgeAt}
-use Rattle.polygon.specs.Ring.{forbidden}
-use Rattle.whole.specs.Lists.{any}
-use lib.ListN.{length, drop}
-use borrow.Author.Needs.{needs}
+-- `polygon::clashes` meets its contract. The loop: what is left of the row tells of the whole row.
 use native.Mathlib.Omega.{arith}
 use mathlib.Core.Path.{_≡_, refl, sym, _∙_}
-use Prim.Native.Nat.{ℕ, _≤_, _-_, _+_, _<_}
+use Prim.Native.Nat.{_≤_, _-_, _+_, _<_}
+use lib.ListN.{drop}
+use borrow.Author.Needs.{needs}
+use Rattle.whole.specs.Lists.{any}
+use Rattle.polygon.specs.Leaves.{edgeAt}
+use Rattle.polygon.specs.Ring.{forbidden}
+use Rattle.polygon.proofs.Pairs.{edges, row-here, row-next, row-end}
 use Rattle.polygon.proofs.clashes.Statement.{statement}
 use Rattle.polygon.proofs.clashes.Tie as tie
-use Rattle.polygon.proofs.clashes.Reads as reads
-use Rattle.polygon.proofs.clashes.Lts as lts
-use Rattle.polygon.proofs.clash.Reads as clash-reads
 
 abbrev Inv-loop : tie.InvT-loop
 Inv-loop us vs m i j₀ j = (i < j) × (j ≤ m) × (any (forbidden m (i, edgeAt us vs i)) (drop j (edges us vs m)) ≡ any (forbidden m (i, edgeAt us vs i)) (drop (i + 1) (edges us vs m)))
@@ -19,39 +17,31 @@ Inv-loop us vs m i j₀ j = (i < j) × (j ≤ m) × (any (forbidden m (i, edgeAt
 abbrev μ-loop : tie.MeasureT-loop
 μ-loop us vs m i j₀ j = m - j
 
--- src/lib.rt:488:17
 add-j : tie.Need-add-j Inv-loop μ-loop
 add-j c = search needs
 
--- src/lib.rt:489:5
 loop-holds : tie.Need-loop-holds Inv-loop μ-loop
 loop-holds c = (omega arith, omega arith, refl)
 
--- src/lib.rt:490:12
 clash-requires : tie.Need-clash-requires Inv-loop μ-loop
 clash-requires c κs = (c .before .before .pre .0, (c .before .loop .inv .0, c .loop-test .taken))
 
--- src/lib.rt:491:13
 returns : tie.Need-returns Inv-loop μ-loop
 returns c =
     let a = c .before .before .before .before .args in
     sym (sym (c .before .before .before .loop .inv .2) ∙ row-here (a .us .now) (a .vs .now) (a .m) _ (c .before .before .before .loop .j) (c .before .before .loop-test .taken) (sym (c .before .clash .ensures) ∙ c .if1 .taken))
 
--- src/lib.rt:493:9
 add-j-2 : tie.Need-add-j-2 Inv-loop μ-loop
 add-j-2 c = search needs
 
--- src/lib.rt:489:5
 loop-less : tie.Need-loop-less Inv-loop μ-loop
 loop-less c = search needs
 
--- src/lib.rt:489:5
 loop-again : tie.Need-loop-again Inv-loop μ-loop
 loop-again c =
     let a = c .before .before .before .before .args in
     (omega arith, omega arith, row-next (a .us .now) (a .vs .now) (a .m) _ (c .before .before .before .loop .j) (c .before .before .loop-test .taken) (sym (c .before .clash .ensures) ∙ c .if1 .left) ∙ c .before .before .before .loop .inv .2)
 
--- src/lib.rt:483:1
 returns-2 : tie.Need-returns-2 Inv-loop μ-loop
 returns-2 c =
     let a = c .before .before .args in

@@ -1,48 +1,36 @@
-use Rattle.polygon.proofs.Columns.{spread-is, crossed-is}
+-- `polygon::crossed_few` meets its contract. Two columns are filled, and the edges between them are those of the definition.
 use mathlib.Core.Path.{_∙_}
 use borrow.Author.Needs.{needs}
+use Rattle.polygon.proofs.Columns.{spread-is, crossed-is}
 use Rattle.polygon.proofs.crossed_few.Statement.{statement}
 use Rattle.polygon.proofs.crossed_few.Tie as tie
-use Rattle.polygon.proofs.crossed_few.Reads as reads
-use Rattle.polygon.proofs.crossed_few.Lts as lts
-use Rattle.polygon.proofs.crossings.Reads as crossings-reads
-use Rattle.polygon.proofs.fill.Reads as fill-reads
 
--- src/lib.rt:547:27
 slice-aggregate-fill : tie.Need-slice-aggregate-fill
 slice-aggregate-fill c = search needs
 
--- src/lib.rt:547:5
 fill-requires : tie.Need-fill-requires
 fill-requires c κs = search needs
 
--- src/lib.rt:548:27
 slice-aggregate-fill-2 : tie.Need-slice-aggregate-fill-2
 slice-aggregate-fill-2 c = search needs
 
--- src/lib.rt:548:5
 fill-requires-2 : tie.Need-fill-requires-2
 fill-requires-2 c κs = search needs
 
--- src/lib.rt:549:15
 slice-aggregate-crossings : tie.Need-slice-aggregate-crossings
 slice-aggregate-crossings c = search needs
 
--- src/lib.rt:549:20
 slice-aggregate-crossings-2 : tie.Need-slice-aggregate-crossings-2
 slice-aggregate-crossings-2 c = search needs
 
--- src/lib.rt:549:25
 sub-crossings : tie.Need-sub-crossings
 sub-crossings c = search needs
 
--- src/lib.rt:549:5
 crossings-requires : tie.Need-crossings-requires
 crossings-requires c κs =
     let h = c .before .before .before .before .before .before .before .before .before .pre .1 .1 in
     spread-is (c .before .before .before .before .before .before .before .before .before .pre .0) (h .1) (h .0) (c .before .before .before .before .before .before .fill .ensures) (c .before .before .before .fill2 .ensures)
 
--- src/lib.rt:539:1
 returns : tie.Need-returns
 returns c =
     let h = c .before .before .before .before .before .before .before .before .before .before .pre .1 .1 in

@@ -1,36 +1,28 @@
-use Rattle.polygon.proofs.Numbers.{near-back, back-is, rows-three}
-use Rattle.polygon.specs.Sizes.{near-place}
-use Rattle.polygon.specs.Space.{determinant}
-use Rattle.whole.specs.Size.{call-is}
+-- `polygon::determinant_of` meets its contract. The three places are handed on as rows.
 use mathlib.Core.Path.{_∙_}
 use mir.Syntax.{w64}
 use borrow.Author.Needs.{needs}
+use Rattle.whole.specs.Size.{call-is}
+use Rattle.polygon.specs.Sizes.{near-place}
+use Rattle.polygon.specs.Space.{determinant}
+use Rattle.polygon.proofs.Numbers.{near-back, back-is, rows-three}
 use Rattle.polygon.proofs.determinant_of.Statement.{statement}
 use Rattle.polygon.proofs.determinant_of.Tie as tie
-use Rattle.polygon.proofs.determinant_of.Reads as reads
-use Rattle.polygon.proofs.determinant_of.Lts as lts
-use Rattle.polygon.proofs.determinant.Reads as determinant-reads
-use Rattle.polygon.proofs.place_of.Reads as place-of-reads
 
--- src/lib.rt:106:9
 place-of-requires : tie.Need-place-of-requires
 place-of-requires c κs = search needs
 
--- src/lib.rt:107:9
 place-of-requires-2 : tie.Need-place-of-requires-2
 place-of-requires-2 c κs = search needs
 
--- src/lib.rt:108:9
 place-of-requires-3 : tie.Need-place-of-requires-3
 place-of-requires-3 c κs = search needs
 
--- src/lib.rt:118:5
 determinant-requires : tie.Need-determinant-requires
 determinant-requires c κs =
     let h = c .before .before .before .before .before .before .before .before .before .before .before .before .pre .0 in
     rows-three (near-back tt (c .before .before .before .before .before .before .before .before .before .before .before .place-of .ensures) (near-place h _)) (near-back tt (c .before .before .before .before .before .before .before .before .before .before .place-of2 .ensures) (near-place h _)) (near-back tt (c .before .before .before .before .before .before .before .before .before .place-of3 .ensures) (near-place h _))
 
--- src/lib.rt:101:1
 returns : tie.Need-returns
 returns c =
     let h = c .before .before .before .before .before .before .before .before .before .before .before .before .before .pre .0 in

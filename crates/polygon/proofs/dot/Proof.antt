@@ -1,12 +1,11 @@
-use Rattle.polygon.specs.Space.{dot}
+-- `polygon::dot` meets its contract. The three products and their sums fit by the bounds of a normal and a way.
+use mathlib.Core.List.{List, [], _∷_}
+use mir.Syntax.{w64}
 use Rattle.whole.specs.Mach.{Leaf, whole, asks, yields}
 use Rattle.whole.specs.Solve.{v, _⊕_, _⊗_}
-use mir.Syntax.{w64}
-use mathlib.Core.List.{List, [], _∷_}
+use Rattle.polygon.specs.Space.{dot}
 use Rattle.polygon.proofs.dot.Statement.{statement}
 use Rattle.polygon.proofs.dot.Tie as tie
-use Rattle.polygon.proofs.dot.Reads as reads
-use Rattle.polygon.proofs.dot.Lts as lts
 
 -- the normal's numbers and the way's
 abbrev leaves : tie.After-struct-told6 → List Leaf
@@ -14,27 +13,21 @@ leaves c =
     let h = c .before .before .before .before .before .before .pre in
     whole w64 tt (h .0 .x) ∷ whole w64 tt (h .0 .y) ∷ whole w64 tt (h .0 .z) ∷ whole w64 tt (h .1 .x) ∷ whole w64 tt (h .1 .y) ∷ whole w64 tt (h .1 .z) ∷ []
 
--- src/lib.rt:223:5
 mul-result : tie.Need-mul-result
 mul-result c = asks w64 (leaves c) (v 0 ⊗ v 3) tt
 
--- src/lib.rt:223:15
 mul-result-2 : tie.Need-mul-result-2
 mul-result-2 c = asks w64 (leaves c) (v 1 ⊗ v 4) tt
 
--- src/lib.rt:223:5
 add-result : tie.Need-add-result
 add-result c = asks w64 (leaves c) (v 0 ⊗ v 3 ⊕ v 1 ⊗ v 4) tt
 
--- src/lib.rt:223:25
 mul-result-3 : tie.Need-mul-result-3
 mul-result-3 c = asks w64 (leaves c) (v 2 ⊗ v 5) tt
 
--- src/lib.rt:223:5
 add-result-2 : tie.Need-add-result-2
 add-result-2 c = asks w64 (leaves c) (v 0 ⊗ v 3 ⊕ v 1 ⊗ v 4 ⊕ v 2 ⊗ v 5) tt
 
--- src/lib.rt:213:1
 returns : tie.Need-returns
 unfolding dot
 returns c = yields w64 (leaves c) (v 0 ⊗ v 3 ⊕ v 1 ⊗ v 4 ⊕ v 2 ⊗ v 5) tt

@@ -1,54 +1,43 @@
-use Rattle.polygon.proofs.Columns.{in-plane}
+-- `polygon::is_crossed` meets its contract. Each axis keeps the two coordinates that the call names.
+use mathlib.Core.Path.{_∙_, sym, ap}
+use borrow.Author.Needs.{needs}
 use Rattle.polygon.specs.Held.{pointsOf}
 use Rattle.polygon.specs.Ring.{edgesIn, isCrossed}
 use Rattle.polygon.specs.Space.{places}
 use Rattle.polygon.specs.declared.Axis.the-variants.{X, Y, Z}
 use Rattle.polygon.specs.declared.Axis.{Axis}
-use mathlib.Core.Path.{_∙_, sym, ap}
-use borrow.Author.Needs.{needs}
+use Rattle.polygon.proofs.Columns.{in-plane}
 use Rattle.polygon.proofs.is_crossed.Statement.{statement}
 use Rattle.polygon.proofs.is_crossed.Tie as tie
-use Rattle.polygon.proofs.is_crossed.Reads as reads
-use Rattle.polygon.proofs.is_crossed.Lts as lts
-use Rattle.polygon.proofs.crossed_in.Reads as crossed-in-reads
 
--- src/lib.rt:587:20
 enum-told : tie.Need-enum-told
 enum-told c = search needs
 
--- src/lib.rt:587:20
 crossed-in-requires : tie.Need-crossed-in-requires
 crossed-in-requires c κs = search needs
 
--- src/lib.rt:588:20
 enum-told-2 : tie.Need-enum-told-2
 enum-told-2 c = search needs
 
--- src/lib.rt:588:20
 crossed-in-requires-2 : tie.Need-crossed-in-requires-2
 crossed-in-requires-2 c κs = search needs
 
--- src/lib.rt:589:20
 enum-told-3 : tie.Need-enum-told-3
 enum-told-3 c = search needs
 
--- src/lib.rt:589:20
 crossed-in-requires-3 : tie.Need-crossed-in-requires-3
 crossed-in-requires-3 c κs = search needs
 
--- src/lib.rt:580:1
 returns : tie.Need-returns
 returns c =
     let a = c .before .before .before .before .args in
     c .crossed-in .ensures ∙ in-plane (c .before .before .before .before .pre .0) (c .before .before .before .before .pre .1 .0) X ∙ ap (λ (x : Axis). isCrossed (edgesIn x (places (pointsOf (a .points .now)) (a .ring .now)))) (sym (c .before .enum-told .given .1))
 
--- src/lib.rt:580:1
 returns-2 : tie.Need-returns-2
 returns-2 c =
     let a = c .before .before .before .before .args in
     c .crossed-in2 .ensures ∙ in-plane (c .before .before .before .before .pre .0) (c .before .before .before .before .pre .1 .0) Y ∙ ap (λ (x : Axis). isCrossed (edgesIn x (places (pointsOf (a .points .now)) (a .ring .now)))) (sym (c .before .enum-told2 .given .1))
 
--- src/lib.rt:580:1
 returns-3 : tie.Need-returns-3
 returns-3 c =
     let a = c .before .before .before .before .args in

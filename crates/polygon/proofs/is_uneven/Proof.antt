@@ -1,27 +1,24 @@
-use Rattle.polygon.proofs.Even.{size-small, Even, even-start, even-end, even-found, even-next}
-use Rattle.polygon.specs.Leaves.{asPoint, Near}
-use Rattle.polygon.specs.Held.{pointsOf}
-use Rattle.polygon.specs.Ring.{size}
-use Rattle.polygon.specs.Space.{Point}
-use Rattle.whole.specs.Mach.{Leaf, whole, called, asks, yields}
-use Rattle.whole.specs.Size.{small-fits}
-use Rattle.whole.specs.Solve.{v, _⊗_}
+-- `polygon::is_uneven` meets its contract. The loop: none of the entries passed is beyond the tolerance.
+use native.Mathlib.Omega.{arith}
+use mathlib.Core.List.{List, [], _∷_}
+use mathlib.Core.Path.{_≡_}
+use Prim.Native.Nat.{ℕ, _≤_, _-_, _<_, _^_}
 use mir.Val.{toZ, hbits}
 use mir.Syntax.{w64}
 use lib.Signed.{mag}
 use lib.IntN.{ℤ, pos}
-use lib.ListN.{length, getD}
+use lib.ListN.{length}
 use borrow.Author.Needs.{needs}
-use native.Mathlib.Omega.{arith}
-use mathlib.Core.List.{List, [], _∷_}
-use mathlib.Core.Path.{_≡_, refl, sym, _∙_}
-use Prim.Native.Nat.{ℕ, _≤_, _-_, _+_, _<_, _^_}
+use Rattle.whole.specs.Mach.{Leaf, whole, called, asks, yields}
+use Rattle.whole.specs.Size.{small-fits}
+use Rattle.whole.specs.Solve.{v, _⊗_}
+use Rattle.polygon.specs.Leaves.{asPoint, Near}
+use Rattle.polygon.specs.Held.{pointsOf}
+use Rattle.polygon.specs.Ring.{size}
+use Rattle.polygon.specs.Space.{Point}
+use Rattle.polygon.proofs.Even.{size-small, Even, even-start, even-end, even-found, even-next}
 use Rattle.polygon.proofs.is_uneven.Statement.{statement}
 use Rattle.polygon.proofs.is_uneven.Tie as tie
-use Rattle.polygon.proofs.is_uneven.Reads as reads
-use Rattle.polygon.proofs.is_uneven.Lts as lts
-use Rattle.polygon.proofs.is_off.Reads as is-off-reads
-use Rattle.polygon.proofs.largest.Reads as largest-reads
 
 -- the tolerance, and the largest size
 abbrev leaves : (t : ℕ) (n : Point) {r : ℤ} → t ≤ 1000 → Near 10160000000000 n → mag r < 2 ^ hbits w64 → r ≡ pos (size n) → List Leaf
@@ -33,57 +30,44 @@ Inv-loop points ring tolerance n limit first i₀ i = Even tolerance (asPoint n)
 abbrev μ-loop : tie.MeasureT-loop
 μ-loop points ring tolerance n limit first i₀ i = length ring - i
 
--- src/lib.rt:335:18
 cast-limit : tie.Need-cast-limit Inv-loop μ-loop
 cast-limit c = small-fits {n = 1000} tt (record { small = c .before .pre .1 .1 .0 .1 })
 
--- src/lib.rt:335:38
 largest-requires : tie.Need-largest-requires Inv-loop μ-loop
 largest-requires c κs = c .before .pre .1 .1 .1
 
--- src/lib.rt:335:17
 mul-limit : tie.Need-mul-limit Inv-loop μ-loop
 mul-limit c = asks w64 (leaves (c .before .before .args .tolerance) _ (c .before .before .pre .1 .1 .0 .1) (c .before .before .pre .1 .1 .1) (c .largest .ok) (c .largest .ensures)) (v 0 ⊗ v 1) tt
 
--- src/lib.rt:336:17
 shared-slice-read-first : tie.Need-shared-slice-read-first Inv-loop μ-loop
 shared-slice-read-first c = search needs
 
--- src/lib.rt:338:5
 loop-holds : tie.Need-loop-holds Inv-loop μ-loop
 loop-holds c =
     even-start (c .before .before .before .args .tolerance) (asPoint (c .before .before .before .args .n)) (pointsOf (c .before .before .before .args .points .now)) (c .before .before .before .args .ring .now) _
     (yields w64 (leaves (c .before .before .before .args .tolerance) _ (c .before .before .before .pre .1 .1 .0 .1) (c .before .before .before .pre .1 .1 .1) (c .before .largest .ok) (c .before .largest .ensures)) (v 0 ⊗ v 1) tt)
 
--- src/lib.rt:339:37
 mul-is-off : tie.Need-mul-is-off Inv-loop μ-loop
 mul-is-off c = search needs
 
--- src/lib.rt:339:37
 shared-slice-read-is-off : tie.Need-shared-slice-read-is-off Inv-loop μ-loop
 shared-slice-read-is-off c = search needs
 
--- src/lib.rt:339:12
 is-off-requires : tie.Need-is-off-requires Inv-loop μ-loop
 is-off-requires c κs = (c .before .before .before .before .before .before .pre .0, ((c .before .before .before .before .before .before .pre .1 .0 .each 0 (omega arith), c .before .before .before .before .before .before .pre .1 .0 .each (c .before .before .loop .i) (c .before .loop-test .taken)), c .before .before .before .before .before .before .pre .1 .1 .1))
 
--- src/lib.rt:340:13
 returns : tie.Need-returns Inv-loop μ-loop
 returns c = even-found (c .before .before .before .before .before .before .before .before .pre .0) (c .before .before .before .before .before .before .before .before .pre .1 .0) (c .before .before .before .before .loop .inv) (c .before .before .before .loop-test .taken) _ (c .before .is-off .ensures) (c .if1 .taken)
 
--- src/lib.rt:342:9
 add-i : tie.Need-add-i Inv-loop μ-loop
 add-i c = search needs
 
--- src/lib.rt:338:5
 loop-less : tie.Need-loop-less Inv-loop μ-loop
 loop-less c = search needs
 
--- src/lib.rt:338:5
 loop-again : tie.Need-loop-again Inv-loop μ-loop
 loop-again c = even-next (c .before .before .before .before .before .before .before .before .pre .0) (c .before .before .before .before .before .before .before .before .pre .1 .0) (c .before .before .before .before .loop .inv) (c .before .before .before .loop-test .taken) _ (c .before .is-off .ensures) (c .if1 .left)
 
--- src/lib.rt:328:1
 returns-2 : tie.Need-returns-2 Inv-loop μ-loop
 returns-2 c = even-end (c .before .before .before .before .before .pre .0) (c .before .before .before .before .before .pre .1 .0) (c .before .loop .inv) (omega (arith, c .before .loop .inv .upto, c .loop-test .left))
 

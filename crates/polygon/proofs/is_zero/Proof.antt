@@ -1,14 +1,12 @@
-use Rattle.polygon.proofs.Sizing.{zero-test}
-use Rattle.polygon.specs.Ring.{isZero}
-use Rattle.whole.specs.Size.{small-fits}
+-- `polygon::is_zero` meets its contract. A number is 0 exactly when its bits are.
 use mathlib.Core.Bool.{_&&_}
 use mathlib.Core.Path.{ap₂}
+use Rattle.whole.specs.Size.{small-fits}
+use Rattle.polygon.specs.Ring.{isZero}
+use Rattle.polygon.proofs.Sizing.{zero-test}
 use Rattle.polygon.proofs.is_zero.Statement.{statement}
 use Rattle.polygon.proofs.is_zero.Tie as tie
-use Rattle.polygon.proofs.is_zero.Reads as reads
-use Rattle.polygon.proofs.is_zero.Lts as lts
 
--- src/lib.rt:256:1
 returns : tie.Need-returns
 unfolding isZero
 returns c =

@@ -1,25 +1,22 @@
-use Rattle.polygon.proofs.Sums.{Going, going-start, going-next, going-few, going-in, two, turn, on, normalStep, Sums, normal-start, way-near, cross-next}
-use Rattle.polygon.specs.Leaves.{at, asPoint}
-use Rattle.polygon.specs.Held.{pointsOf}
-use Rattle.polygon.specs.declared.Axis.the-variants.{X, Y, Z}
-use Rattle.polygon.specs.declared.Axis.{Axis}
-use Rattle.whole.specs.Sum.{Acc, acc-end}
-use Rattle.whole.specs.Mach.{Leaf, asks}
-use Rattle.whole.specs.Size.{Small}
-use Rattle.whole.specs.Solve.{v, _⊕_}
+-- `polygon::normal` meets its contract. The loop: three sums over the steps passed, one for each axis.
+use native.Mathlib.Omega.{arith}
+use mathlib.Core.Path.{_≡_, refl}
+use Prim.Native.Nat.{_-_}
 use mir.Val.{toZ}
 use mir.Syntax.{w64}
 use lib.ListN.{length, getD}
 use borrow.Author.Needs.{needs}
-use native.Mathlib.Omega.{arith}
-use mathlib.Core.Path.{_≡_, refl, sym, _∙_}
-use Prim.Native.Nat.{ℕ, _≤_, _-_, _+_, _<_}
+use Rattle.whole.specs.Sum.{acc-end}
+use Rattle.whole.specs.Mach.{asks}
+use Rattle.whole.specs.Size.{Small}
+use Rattle.whole.specs.Solve.{v, _⊕_}
+use Rattle.polygon.specs.Leaves.{at, asPoint}
+use Rattle.polygon.specs.Held.{pointsOf}
+use Rattle.polygon.specs.declared.Axis.the-variants.{X, Y, Z}
+use Rattle.polygon.specs.declared.Axis.{Axis}
+use Rattle.polygon.proofs.Sums.{Going, going-start, going-next, going-few, going-in, two, turn, on, normalStep, Sums, normal-start, way-near, cross-next}
 use Rattle.polygon.proofs.normal.Statement.{statement}
 use Rattle.polygon.proofs.normal.Tie as tie
-use Rattle.polygon.proofs.normal.Reads as reads
-use Rattle.polygon.proofs.normal.Lts as lts
-use Rattle.polygon.proofs.cross.Reads as cross-reads
-use Rattle.polygon.proofs.toward.Reads as toward-reads
 
 -- how far the loop has come, and its three sums
 abbrev Inv-loop : tie.InvT-loop
@@ -28,11 +25,9 @@ Inv-loop points ring x₀ y₀ z₀ n first last₀ i₀ x y z last i = Going ri
 abbrev μ-loop : tie.MeasureT-loop
 μ-loop points ring x₀ y₀ z₀ n first last₀ i₀ x y z last i = n - i
 
--- src/lib.rt:237:17
 shared-slice-read-first : tie.Need-shared-slice-read-first Inv-loop μ-loop
 shared-slice-read-first c = search needs
 
--- src/lib.rt:240:5
 loop-holds : tie.Need-loop-holds Inv-loop μ-loop
 loop-holds c =
     let p = pointsOf (c .before .before .args .points .now) in
@@ -40,23 +35,18 @@ loop-holds c =
     let h = c .before .before .pre .1 .1 in
     (going-start (c .before .before .pre .1 .0) refl (λ e. omega arith), record { on-x = normal-start p r X h; on-y = normal-start p r Y h; on-z = normal-start p r Z h })
 
--- src/lib.rt:241:20
 mul-next : tie.Need-mul-next Inv-loop μ-loop
 mul-next c = search needs
 
--- src/lib.rt:241:20
 shared-slice-read-next : tie.Need-shared-slice-read-next Inv-loop μ-loop
 shared-slice-read-next c = search needs
 
--- src/lib.rt:242:23
 toward-requires : tie.Need-toward-requires Inv-loop μ-loop
 toward-requires c κs = let g = c .before .before .loop .inv .0 in (c .before .before .before .before .before .pre .0, (g .head-known, g .last-known))
 
--- src/lib.rt:242:52
 toward-requires-2 : tie.Need-toward-requires-2 Inv-loop μ-loop
 toward-requires-2 c κs = let g = c .before .before .before .loop .inv .0 in (c .before .before .before .before .before .before .pre .0, (g .head-known, going-next (c .before .before .before .before .before .before .pre .1 .0) g (c .before .before .loop-test .taken) .last-known))
 
--- src/lib.rt:242:13
 cross-requires : tie.Need-cross-requires Inv-loop μ-loop
 cross-requires c κs = (way-near _ _ (c .before .before .before .before .before .before .before .pre .0) (c .before .toward .ensures), way-near _ _ (c .before .before .before .before .before .before .before .pre .0) (c .toward2 .ensures))
 
@@ -69,27 +59,21 @@ added : (c : Step) (axis : Axis)
     × Small 80000000000 (on axis (asPoint (c .before .before .before .cross .result)))
 added c axis = cross-next (c .before .before .before .before .before .before .before .before .before .before .before .pre .0) (c .before .before .before .before .before .before .before .before .before .before .before .pre .1 .0) (c .before .before .before .before .before .before .before .before .loop .inv .0) (c .before .before .before .before .before .before .before .loop-test .taken) (c .before .before .before .before .before .toward .ensures) (c .before .before .before .before .toward2 .ensures) (c .before .before .before .cross .ensures) axis
 
--- src/lib.rt:246:9
 add-x : tie.Need-add-x Inv-loop μ-loop
 add-x c = asks w64 (two (c .before .before .before .before .before .before .before .before .loop .x) tt (c .before .before .before .before .before .before .before .before .loop .inv .1 .on-x) (going-few (c .before .before .before .before .before .before .before .before .before .before .before .pre .1 .0) (c .before .before .before .before .before .before .before .before .loop .inv .0)) (added c X .1)) (v 0 ⊕ v 1) tt
 
--- src/lib.rt:247:9
 add-y : tie.Need-add-y Inv-loop μ-loop
 add-y c = asks w64 (two (c .before .before .before .before .before .before .before .before .loop .y) tt (c .before .before .before .before .before .before .before .before .loop .inv .1 .on-y) (going-few (c .before .before .before .before .before .before .before .before .before .before .before .pre .1 .0) (c .before .before .before .before .before .before .before .before .loop .inv .0)) (added c Y .1)) (v 0 ⊕ v 1) tt
 
--- src/lib.rt:248:9
 add-z : tie.Need-add-z Inv-loop μ-loop
 add-z c = asks w64 (two (c .before .before .before .before .before .before .before .before .loop .z) tt (c .before .before .before .before .before .before .before .before .loop .inv .1 .on-z) (going-few (c .before .before .before .before .before .before .before .before .before .before .before .pre .1 .0) (c .before .before .before .before .before .before .before .before .loop .inv .0)) (added c Z .1)) (v 0 ⊕ v 1) tt
 
--- src/lib.rt:250:9
 add-i : tie.Need-add-i Inv-loop μ-loop
 add-i c = search needs
 
--- src/lib.rt:240:5
 loop-less : tie.Need-loop-less Inv-loop μ-loop
 loop-less c = search needs
 
--- src/lib.rt:240:5
 loop-again : tie.Need-loop-again Inv-loop μ-loop
 loop-again c =
     let g = c .before .before .before .before .before .before .before .before .loop .inv .0 in
@@ -104,7 +88,6 @@ loop-again c =
       },
     )
 
--- src/lib.rt:227:1
 returns : tie.Need-returns Inv-loop μ-loop
 returns c =
     let s = c .before .loop .inv .1 in

@@ -1,24 +1,19 @@
-use Rattle.polygon.proofs.Numbers.{spot-back}
-use Rattle.polygon.specs.Plane.{side, sameSign}
-use Rattle.whole.specs.Size.{call-is}
-use mir.Syntax.{w64}
+-- `polygon::one_side` meets its contract. The two sides are those of the definition.
 use mathlib.Core.Path.{_∙_}
+use mir.Syntax.{w64}
 use borrow.Author.Needs.{needs}
+use Rattle.whole.specs.Size.{call-is}
+use Rattle.polygon.specs.Plane.{side, sameSign}
+use Rattle.polygon.proofs.Numbers.{spot-back}
 use Rattle.polygon.proofs.one_side.Statement.{statement}
 use Rattle.polygon.proofs.one_side.Tie as tie
-use Rattle.polygon.proofs.one_side.Reads as reads
-use Rattle.polygon.proofs.one_side.Lts as lts
-use Rattle.polygon.proofs.side.Reads as side-reads
 
--- src/lib.rt:377:9
 side-requires : tie.Need-side-requires
 side-requires c κs = search needs
 
--- src/lib.rt:378:9
 side-requires-2 : tie.Need-side-requires-2
 side-requires-2 c κs = search needs
 
--- src/lib.rt:365:1
 returns : tie.Need-returns
 unfolding sameSign
 returns c =

@@ -1,25 +1,19 @@
+-- `polygon::share` meets its contract. The boxes first, then the sides.
+use mathlib.Core.Bool.{not}
+use mathlib.Core.Path.{_∙_, ap}
+use borrow.Author.Needs.{needs}
+use Rattle.polygon.specs.Leaves.{asSegment}
 use Rattle.polygon.proofs.Pairs.{share-apart, share-beside, share-last}
 use Rattle.polygon.proofs.Numbers.{overlap-back}
-use Rattle.polygon.specs.Leaves.{asSegment}
-use mathlib.Core.Bool.{Bool, not}
-use mathlib.Core.Path.{_≡_, _∙_, ap}
-use borrow.Author.Needs.{needs}
 use Rattle.polygon.proofs.share.Statement.{statement}
 use Rattle.polygon.proofs.share.Tie as tie
-use Rattle.polygon.proofs.share.Reads as reads
-use Rattle.polygon.proofs.share.Lts as lts
-use Rattle.polygon.proofs.apart.Reads as apart-reads
-use Rattle.polygon.proofs.one_side.Reads as one-side-reads
 
--- src/lib.rt:404:9
 apart-requires : tie.Need-apart-requires
 apart-requires c κs = search needs
 
--- src/lib.rt:405:9
 apart-requires-2 : tie.Need-apart-requires-2
 apart-requires-2 c κs = search needs
 
--- src/lib.rt:407:9
 returns : tie.Need-returns
 returns c =
     let e = c .before .before .before .before .before .before .before .before .before .before .before .pre .0 in
@@ -29,11 +23,9 @@ returns c =
     (c .before .apart2 .ensures ∙ ap not (overlap-back (e .from .on-v) (e .to .on-v) (f .from .on-v) (f .to .on-v)))
     (c .if1 .taken)
 
--- src/lib.rt:409:8
 one-side-requires : tie.Need-one-side-requires
 one-side-requires c κs = search needs
 
--- src/lib.rt:410:9
 returns-2 : tie.Need-returns-2
 returns-2 c =
     let e = c .before .before .before .before .before .before .before .before .before .before .before .before .before .pre .0 in
@@ -43,11 +35,9 @@ returns-2 c =
     (c .before .before .before .apart2 .ensures ∙ ap not (overlap-back (e .from .on-v) (e .to .on-v) (f .from .on-v) (f .to .on-v)))
     (c .before .one-side .ensures) (c .if2 .taken)
 
--- src/lib.rt:412:6
 one-side-requires-2 : tie.Need-one-side-requires-2
 one-side-requires-2 c κs = search needs
 
--- src/lib.rt:392:1
 returns-3 : tie.Need-returns-3
 returns-3 c =
     let e = c .before .before .before .before .before .before .before .before .before .before .before .before .before .before .pre .0 in

@@ -1,24 +1,21 @@
-use Rattle.polygon.proofs.Sizing.{zero-test}
-use Rattle.polygon.proofs.Numbers.{ends}
-use Rattle.polygon.specs.Plane.{shareMore, turnOff, ahead}
-use Rattle.whole.specs.Mach.{Leaf, inner, node, asks, plain, seen-small}
-use Rattle.whole.specs.Size.{call-is}
-use Rattle.whole.specs.Lists.{sameZ}
-use Rattle.whole.specs.Solve.{v, _⊕_, _⊖_, _⊗_}
+-- `polygon::share_more` meets its contract. The two ways are handed on as differences.
+use mathlib.Core.List.{List, [], _∷_}
+use mathlib.Core.Bool.{_&&_}
+use mathlib.Core.Path.{_∙_, ap, ap₂}
+use Prim.Native.Nat.{ℕ}
 use mir.Syntax.{w64}
 use lib.Signed.{ltZ}
 use lib.IntN.{ℤ, pos}
 use lib.Dec.{T}
-use mathlib.Core.List.{List, [], _∷_}
-use mathlib.Core.Bool.{Bool, _&&_}
-use mathlib.Core.Path.{_≡_, _∙_, ap, ap₂}
-use Prim.Native.Nat.{ℕ}
+use Rattle.whole.specs.Mach.{Leaf, inner, node, asks, plain, seen-small}
+use Rattle.whole.specs.Size.{call-is}
+use Rattle.whole.specs.Lists.{sameZ}
+use Rattle.whole.specs.Solve.{v, _⊕_, _⊖_, _⊗_}
+use Rattle.polygon.specs.Plane.{shareMore, turnOff, ahead}
+use Rattle.polygon.proofs.Sizing.{zero-test}
+use Rattle.polygon.proofs.Numbers.{ends}
 use Rattle.polygon.proofs.share_more.Statement.{statement}
 use Rattle.polygon.proofs.share_more.Tie as tie
-use Rattle.polygon.proofs.share_more.Reads as reads
-use Rattle.polygon.proofs.share_more.Lts as lts
-use Rattle.polygon.proofs.ahead.Reads as ahead-reads
-use Rattle.polygon.proofs.turn_off.Reads as turn-off-reads
 
 -- the numbers of the two edges
 abbrev leaves : tie.After-struct-told8 → List Leaf
@@ -30,31 +27,24 @@ leaves c =
 abbrev way : (c : tie.After-struct-told8) (i j : ℕ) → T (inner w64 (leaves c) (v i ⊖ v j)) → Leaf
 way c i j t = node w64 (leaves c) (v i ⊖ v j) t
 
--- src/lib.rt:443:13
 sub-p : tie.Need-sub-p
 sub-p c = asks w64 (leaves c) (v 2 ⊖ v 0) tt
 
--- src/lib.rt:444:13
 sub-q : tie.Need-sub-q
 sub-q c = asks w64 (leaves c) (v 3 ⊖ v 1) tt
 
--- src/lib.rt:445:13
 sub-r : tie.Need-sub-r
 sub-r c = asks w64 (leaves c) (v 6 ⊖ v 4) tt
 
--- src/lib.rt:446:13
 sub-s : tie.Need-sub-s
 sub-s c = asks w64 (leaves c) (v 7 ⊖ v 5) tt
 
--- src/lib.rt:447:9
 turn-off-requires : tie.Need-turn-off-requires
 turn-off-requires c κs = (seen-small (way c 2 0 tt) tt, seen-small (way c 3 1 tt) tt, seen-small (way c 6 4 tt) tt, seen-small (way c 7 5 tt) tt)
 
--- src/lib.rt:448:9
 ahead-requires : tie.Need-ahead-requires
 ahead-requires c κs = let d = c .before in (seen-small (way d 2 0 tt) tt, seen-small (way d 3 1 tt) tt, seen-small (way d 6 4 tt) tt, seen-small (way d 7 5 tt) tt)
 
--- src/lib.rt:431:1
 returns : tie.Need-returns
 unfolding shareMore turnOff ahead
 returns c =

@@ -1,12 +1,11 @@
-use Rattle.polygon.specs.Plane.{side}
+-- `polygon::side` meets its contract. The formula is quoted.
+use mathlib.Core.List.{List, [], _∷_}
+use mir.Syntax.{w64}
 use Rattle.whole.specs.Mach.{Leaf, whole, asks, yields}
 use Rattle.whole.specs.Solve.{v, _⊖_, _⊗_}
-use mir.Syntax.{w64}
-use mathlib.Core.List.{List, [], _∷_}
+use Rattle.polygon.specs.Plane.{side}
 use Rattle.polygon.proofs.side.Statement.{statement}
 use Rattle.polygon.proofs.side.Tie as tie
-use Rattle.polygon.proofs.side.Reads as reads
-use Rattle.polygon.proofs.side.Lts as lts
 
 -- the three places' numbers
 abbrev leaves : tie.Start → List Leaf
@@ -14,35 +13,27 @@ leaves c =
     let h = c .pre in
     whole w64 tt (h .0 .on-u) ∷ whole w64 tt (h .0 .on-v) ∷ whole w64 tt (h .1 .on-u) ∷ whole w64 tt (h .1 .on-v) ∷ whole w64 tt (h .2 .on-u) ∷ whole w64 tt (h .2 .on-v) ∷ []
 
--- src/lib.rt:361:6
 sub-result : tie.Need-sub-result
 sub-result c = asks w64 (leaves c) (v 2 ⊖ v 0) tt
 
--- src/lib.rt:361:18
 sub-result-2 : tie.Need-sub-result-2
 sub-result-2 c = asks w64 (leaves c) (v 5 ⊖ v 1) tt
 
--- src/lib.rt:361:5
 mul-result : tie.Need-mul-result
 mul-result c = asks w64 (leaves c) ((v 2 ⊖ v 0) ⊗ (v 5 ⊖ v 1)) tt
 
--- src/lib.rt:361:30
 sub-result-3 : tie.Need-sub-result-3
 sub-result-3 c = asks w64 (leaves c) (v 3 ⊖ v 1) tt
 
--- src/lib.rt:361:42
 sub-result-4 : tie.Need-sub-result-4
 sub-result-4 c = asks w64 (leaves c) (v 4 ⊖ v 0) tt
 
--- src/lib.rt:361:29
 mul-result-2 : tie.Need-mul-result-2
 mul-result-2 c = asks w64 (leaves c) ((v 3 ⊖ v 1) ⊗ (v 4 ⊖ v 0)) tt
 
--- src/lib.rt:361:5
 sub-result-5 : tie.Need-sub-result-5
 sub-result-5 c = asks w64 (leaves c) ((v 2 ⊖ v 0) ⊗ (v 5 ⊖ v 1) ⊖ (v 3 ⊖ v 1) ⊗ (v 4 ⊖ v 0)) tt
 
--- src/lib.rt:357:1
 returns : tie.Need-returns
 unfolding side
 returns c = yields w64 (leaves c) ((v 2 ⊖ v 0) ⊗ (v 5 ⊖ v 1) ⊖ (v 3 ⊖ v 1) ⊗ (v 4 ⊖ v 0)) tt

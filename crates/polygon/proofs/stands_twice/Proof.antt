@@ -1,17 +1,15 @@
-use Rattle.polygon.proofs.Rings.{rest-is}
-use Rattle.whole.specs.Search.{two-here, two-next, two-end}
-use Rattle.whole.specs.Lists.{lists, any, anyTwo}
+-- `polygon::stands_twice` meets its contract. The loop: what is left of the list tells of its pairs.
+use native.Mathlib.Omega.{arith}
+use mathlib.Core.Path.{_≡_, refl, sym, _∙_}
+use Prim.Native.Nat.{_≤_, _-_}
 use lib.ListN.{length, drop}
 use lib.Dec.{eqb}
 use borrow.Author.Needs.{needs}
-use native.Mathlib.Omega.{arith}
-use mathlib.Core.Path.{_≡_, refl, sym, _∙_}
-use Prim.Native.Nat.{ℕ, _≤_, _-_, _+_, _<_}
+use Rattle.whole.specs.Search.{two-here, two-next, two-end}
+use Rattle.whole.specs.Lists.{lists, anyTwo}
+use Rattle.polygon.proofs.Rings.{rest-is}
 use Rattle.polygon.proofs.stands_twice.Statement.{statement}
 use Rattle.polygon.proofs.stands_twice.Tie as tie
-use Rattle.polygon.proofs.stands_twice.Reads as reads
-use Rattle.polygon.proofs.stands_twice.Lts as lts
-use Rattle.polygon.proofs.lists.Reads as lists-reads
 
 abbrev Inv-loop : tie.InvT-loop
 Inv-loop list n i₀ i = (i ≤ n) × (n ≡ length list) × (anyTwo eqb (drop i list) ≡ anyTwo eqb list)
@@ -19,43 +17,33 @@ Inv-loop list n i₀ i = (i ≤ n) × (n ≡ length list) × (anyTwo eqb (drop i
 abbrev μ-loop : tie.MeasureT-loop
 μ-loop list n i₀ i = n - i
 
--- src/lib.rt:155:5
 loop-holds : tie.Need-loop-holds Inv-loop μ-loop
 loop-holds c = (omega arith, refl, refl)
 
--- src/lib.rt:156:20
 add-next : tie.Need-add-next Inv-loop μ-loop
 add-next c = search needs
 
--- src/lib.rt:157:17
 mul-x : tie.Need-mul-x Inv-loop μ-loop
 mul-x c = search needs
 
--- src/lib.rt:157:17
 shared-slice-read-x : tie.Need-shared-slice-read-x Inv-loop μ-loop
 shared-slice-read-x c = search needs
 
--- src/lib.rt:158:18
 mul-lists : tie.Need-mul-lists Inv-loop μ-loop
 mul-lists c = search needs
 
--- src/lib.rt:158:18
 sub-lists : tie.Need-sub-lists Inv-loop μ-loop
 sub-lists c = search needs
 
--- src/lib.rt:158:18
 part-lists-start : tie.Need-part-lists-start Inv-loop μ-loop
 part-lists-start c = search needs
 
--- src/lib.rt:158:18
 part-lists-end : tie.Need-part-lists-end Inv-loop μ-loop
 part-lists-end c = search needs
 
--- src/lib.rt:158:12
 lists-requires : tie.Need-lists-requires Inv-loop μ-loop
 lists-requires c κs = search needs
 
--- src/lib.rt:159:13
 returns : tie.Need-returns Inv-loop μ-loop
 unfolding lists
 returns c =
@@ -63,11 +51,9 @@ returns c =
     let a = c .before .before .before .before .before .before .before .args .list .now in
     sym (sym (l .inv .2) ∙ two-here eqb a (l .i) 0 (omega arith) (sym (rest-is eqb a (l .i) 0) ∙ sym (c .before .lists .ensures) ∙ c .if1 .taken))
 
--- src/lib.rt:155:5
 loop-less : tie.Need-loop-less Inv-loop μ-loop
 loop-less c = search needs
 
--- src/lib.rt:155:5
 loop-again : tie.Need-loop-again Inv-loop μ-loop
 unfolding lists
 loop-again c =
@@ -75,7 +61,6 @@ loop-again c =
     let a = c .before .before .before .before .before .before .before .args .list .now in
     (omega arith, refl, sym (two-next eqb a (l .i) 0 (omega arith) (sym (rest-is eqb a (l .i) 0) ∙ sym (c .before .lists .ensures) ∙ c .if1 .left)) ∙ l .inv .2)
 
--- src/lib.rt:150:1
 returns-2 : tie.Need-returns-2 Inv-loop μ-loop
 returns-2 c =
     let l = c .before .loop in

@@ -1,11 +1,10 @@
+-- `polygon::turn_off` meets its contract. The products of small ways fit.
+use mathlib.Core.List.{List, [], _∷_}
+use mir.Syntax.{w64}
 use Rattle.whole.specs.Mach.{Leaf, whole, asks, yields}
 use Rattle.whole.specs.Solve.{v, _⊖_, _⊗_}
-use mir.Syntax.{w64}
-use mathlib.Core.List.{List, [], _∷_}
 use Rattle.polygon.proofs.turn_off.Statement.{statement}
 use Rattle.polygon.proofs.turn_off.Tie as tie
-use Rattle.polygon.proofs.turn_off.Reads as reads
-use Rattle.polygon.proofs.turn_off.Lts as lts
 
 -- the two ways' numbers
 abbrev leaves : tie.Start → List Leaf
@@ -13,19 +12,15 @@ leaves c =
     let h = c .pre in
     whole w64 tt (h .0) ∷ whole w64 tt (h .1) ∷ whole w64 tt (h .2) ∷ whole w64 tt (h .3) ∷ []
 
--- src/lib.rt:420:5
 mul-result : tie.Need-mul-result
 mul-result c = asks w64 (leaves c) (v 0 ⊗ v 3) tt
 
--- src/lib.rt:420:13
 mul-result-2 : tie.Need-mul-result-2
 mul-result-2 c = asks w64 (leaves c) (v 1 ⊗ v 2) tt
 
--- src/lib.rt:420:5
 sub-result : tie.Need-sub-result
 sub-result c = asks w64 (leaves c) (v 0 ⊗ v 3 ⊖ v 1 ⊗ v 2) tt
 
--- src/lib.rt:416:1
 returns : tie.Need-returns
 returns c = yields w64 (leaves c) (v 0 ⊗ v 3 ⊖ v 1 ⊗ v 2) tt
 

@@ -1,17 +1,14 @@
-use Rattle.whole.specs.Tests.{lt-flag}
-use mir.Facts.{toZ-ofZ}
+-- `polygon::upper` meets its contract. By the test.
 use mathlib.Core.Path.{_∙_, sym, ap}
 use mathlib.Core.Bool.{Bool, cond}
+use mir.Facts.{toZ-ofZ}
+use Rattle.whole.specs.Tests.{lt-flag}
 use Rattle.polygon.proofs.upper.Statement.{statement}
 use Rattle.polygon.proofs.upper.Tie as tie
-use Rattle.polygon.proofs.upper.Reads as reads
-use Rattle.polygon.proofs.upper.Lts as lts
 
--- src/lib.rt:274:1
 returns : tie.Need-returns
 returns c = toZ-ofZ (c .before .fits .p) ∙ sym (ap (λ (t : Bool). cond t (c .before .args .p) (c .before .args .q)) (lt-flag (toZ-ofZ (c .before .fits .q)) (toZ-ofZ (c .before .fits .p)) (c .if1 .taken)))
 
--- src/lib.rt:274:1
 returns-2 : tie.Need-returns-2
 returns-2 c = toZ-ofZ (c .before .fits .q) ∙ sym (ap (λ (t : Bool). cond t (c .before .args .p) (c .before .args .q)) (lt-flag (toZ-ofZ (c .before .fits .q)) (toZ-ofZ (c .before .fits .p)) (c .if1 .left)))
 

@@ -1,0 +1,72 @@
+// Compares the plain baseline, the tuned one and, where it is linked, the checker on random and damaged streams; every byte
+// of the room is compared, past the answer too. Usage: agree [count [first seed]]
+#include "baselines.h"
+#include "streams.hpp"
+
+#include <cstdlib>
+#include <cstring>
+#include <vector>
+
+#ifdef WITH_CHECKER
+#include "framecheck.h"
+#endif
+
+namespace {
+
+using Entry = std::int64_t (*)(const std::uint8_t *, std::size_t, std::uint8_t *, std::size_t);
+
+struct Outcome {
+    std::int64_t result;
+    std::vector<std::uint8_t> room;
+};
+
+Outcome ask(Entry entry, const std::string &stream, std::size_t room) {
+    Outcome o{0, std::vector<std::uint8_t>(room, 0xA5)};
+    o.result = entry(reinterpret_cast<const std::uint8_t *>(stream.data()), stream.size(), o.room.data(), room);
+    return o;
+}
+
+bool same(const Outcome &a, const Outcome &b) { return a.result == b.result && a.room == b.room; }
+
+std::size_t lines_of(const std::string &text) {
+    return static_cast<std::size_t>(std::count(text.begin(), text.end(), '\n')) + (!text.empty() && text.back() != '\n');
+}
+
+} // namespace
+
+int main(int argc, char **argv) {
+    const std::uint64_t count = argc > 1 ? std::strtoull(argv[1], nullptr, 10) : 20000;
+    const std::uint64_t first = argc > 2 ? std::strtoull(argv[2], nullptr, 10) : 1;
+    std::map<std::string, std::uint64_t> seen; // kinds of answers met, so that the reader sees what was covered
+    std::uint64_t failed = 0;
+    for (std::uint64_t seed = first; seed < first + count; seed++) {
+        const std::string stream = streams::any_stream(seed);
+        streams::Random r(~seed);
+        const std::size_t enough = 33 * lines_of(stream);
+        const std::size_t room = r.one_in(50) ? enough - std::min<std::size_t>(enough, 1) : enough + static_cast<std::size_t>(r.below(40));
+        const Outcome plain = ask(framecheck_plain_answer, stream, room);
+        bool agree = same(plain, ask(framecheck_tuned_answer, stream, room));
+#ifdef WITH_CHECKER
+        agree = agree && same(plain, ask(checker_answer, stream, room));
+#endif
+        if (!agree) {
+            failed++;
+            std::fprintf(stderr, "seed %llu: answers differ\n", static_cast<unsigned long long>(seed));
+        }
+        if (plain.result < 0) {
+            seen["whole-stream refusal " + std::to_string(plain.result)]++;
+            continue;
+        }
+        const std::string text(plain.room.begin(), plain.room.begin() + plain.result);
+        for (std::size_t at = 0; at < text.size();) {
+            const std::size_t end = text.find('\n', at), size = end - at;
+            if (size == 2) seen[text[at + 1] == '0' ? "plain" : "refusal " + text.substr(at, 2)]++;
+            if (size == 32) seen["report " + text.substr(at + 2, 2)]++;
+            if (size == 28) seen["question, finding " + text.substr(at + 2, 2)]++;
+            at = end + 1;
+        }
+    }
+    for (const auto &[what, times] : seen) std::printf("%-28s %llu\n", what.c_str(), static_cast<unsigned long long>(times));
+    std::printf("%llu passed, %llu failed\n", static_cast<unsigned long long>(count - failed), static_cast<unsigned long long>(failed));
+    return failed == 0 ? 0 : 1;
+}

@@ -1,0 +1,217 @@
+// Times the checker beside the two baselines on nine buildings, in one run, and measures the stack. No time is printed unless
+// all three agree on every answer byte of every stream that is timed. Usage: bench NAME [samples], NAME of what is linked.
+#include "baselines.h"
+#include "framecheck.h"
+#include "streams.hpp"
+
+#include <cstdlib>
+#include <cstring>
+#include <ctime>
+#include <fstream>
+#include <ucontext.h>
+#include <vector>
+
+namespace {
+
+using Entry = std::int64_t (*)(const std::uint8_t *, std::size_t, std::uint8_t *, std::size_t);
+
+// The floor: the same bytes through a table, digits packed two a byte, line feeds passed over, other characters noticed.
+std::int64_t decode_floor(const std::uint8_t *stream, std::size_t stream_len, std::uint8_t *room, std::size_t) {
+    static const struct Table {
+        std::uint8_t value[256];
+        Table() {
+            std::memset(value, 0x80, sizeof value);
+            for (int d = 0; d < 16; d++) value[static_cast<int>("0123456789ABCDEF"[d])] = static_cast<std::uint8_t>(d);
+        }
+    } table;
+    std::uint8_t *out = room;
+    std::uint32_t bad = 0;
+    for (std::size_t at = 0; at < stream_len;) {
+        const auto *found = static_cast<const std::uint8_t *>(std::memchr(stream + at, '\n', stream_len - at));
+        const std::size_t end = found != nullptr ? static_cast<std::size_t>(found - stream) : stream_len;
+        for (; at + 1 < end; at += 2) {
+            const std::uint32_t high = table.value[stream[at]], low = table.value[stream[at + 1]];
+            bad |= high | low;
+            *out++ = static_cast<std::uint8_t>(high << 4 | low);
+        }
+        at = end + 1;
+    }
+    return bad < 0x80 ? out - room : -1;
+}
+
+struct Case {
+    std::string name, stream;
+    std::size_t points, polygons, entries;
+};
+
+Case make_case(const streams::Model &m, bool corrected) {
+    std::size_t entries = 0;
+    for (const auto &ring : m.rings) entries += ring.size();
+    return {m.name, corrected ? streams::with_corrections(m) : streams::load(m), m.points.size(), m.rings.size(), entries};
+}
+
+std::size_t lines_of(const std::string &s) { return framecheck_lines(reinterpret_cast<const std::uint8_t *>(s.data()), s.size()); }
+
+std::vector<std::uint8_t> answers(Entry entry, const std::string &stream) {
+    std::vector<std::uint8_t> room(33 * lines_of(stream), 0xA5);
+    const std::int64_t n = entry(reinterpret_cast<const std::uint8_t *>(stream.data()), stream.size(), room.data(), room.size());
+    for (int i = 0; i < 8; i++) room.push_back(static_cast<std::uint8_t>(n >> 8 * i));
+    return room;
+}
+
+const std::vector<Entry> all_three{checker_answer, framecheck_plain_answer, framecheck_tuned_answer};
+
+void must_agree(const Case &c) {
+    for (Entry entry : all_three) {
+        if (answers(entry, c.stream) == answers(checker_answer, c.stream)) continue;
+        std::printf("bench: the answers to '%s' differ; no time is printed\n", c.name.c_str());
+        std::exit(1);
+    }
+}
+
+// The thread's own processor time, so that other work on the machine is not counted.
+double seconds() {
+    timespec t{};
+    clock_gettime(CLOCK_THREAD_CPUTIME_ID, &t);
+    return static_cast<double>(t.tv_sec) + static_cast<double>(t.tv_nsec) * 1e-9;
+}
+
+volatile std::int64_t sink;
+
+double once(Entry entry, const std::string &stream, std::vector<std::uint8_t> &room, int calls) {
+    const auto *data = reinterpret_cast<const std::uint8_t *>(stream.data());
+    const double start = seconds();
+    for (int i = 0; i < calls; i++) sink = entry(data, stream.size(), room.data(), room.size());
+    return (seconds() - start) / calls;
+}
+
+// Medians in seconds of one whole call of each entry. The entries take turns, so that a machine whose pace changes slows all
+// alike; a sample is 100 microseconds of calls or one call, and an entry gets two seconds at most.
+std::vector<double> medians(const std::vector<Entry> &entries, const std::string &stream, int samples) {
+    std::vector<std::uint8_t> room(std::max<std::size_t>(33 * lines_of(stream), stream.size()));
+    std::vector<int> calls, wanted;
+    for (Entry entry : entries) {
+        const double first = std::max(1e-8, std::min(once(entry, stream, room, 1), once(entry, stream, room, 1)));
+        calls.push_back(std::max(1, static_cast<int>(100e-6 / first)));
+        wanted.push_back(std::max(5, std::min(samples, static_cast<int>(2.0 / (first * calls.back())))));
+    }
+    std::vector<std::vector<double>> times(entries.size());
+    for (int s = 0; s < samples; s++)
+        for (std::size_t e = 0; e < entries.size(); e++)
+            if (s < wanted[e]) times[e].push_back(once(entries[e], stream, room, calls[e]));
+    std::vector<double> result;
+    for (auto &t : times) {
+        const auto middle = t.begin() + static_cast<std::ptrdiff_t>(t.size() / 2);
+        std::nth_element(t.begin(), middle, t.end());
+        result.push_back(*middle);
+    }
+    return result;
+}
+
+void table(const char *title, const char *linked, const std::vector<Case> &cases, int samples) {
+    std::printf("\n%s; microseconds a call\n", title);
+    std::printf("%-20s %6s %5s %5s %5s | %9s %9s %9s %8s | %7s %7s %7s\n", "building", "bytes", "lines", "polyg", "entr", linked,
+                "plain", "tuned", "decode", "/plain", "/tuned", "/decode");
+    for (const auto &c : cases) {
+        const auto t = medians({checker_answer, framecheck_plain_answer, framecheck_tuned_answer, decode_floor}, c.stream, samples);
+        std::printf("%-20s %6zu %5zu %5zu %5zu | %9.2f %9.2f %9.2f %8.2f | %7.3f %7.2f %7.2f\n", c.name.c_str(), c.stream.size(),
+                    lines_of(c.stream), c.polygons, c.entries, t[0] * 1e6, t[1] * 1e6, t[2] * 1e6, t[3] * 1e6, t[0] / t[1], t[0] / t[2],
+                    t[0] / t[3]);
+    }
+}
+
+void growth(const char *title, const char *linked, const std::vector<Case> &cases, int samples) {
+    std::printf("\n%s; nanoseconds of a load by polygon, by byte\n", title);
+    std::printf("%-20s %6s %5s %5s | %9s %7s | %9s %7s | %9s %7s\n", "building", "bytes", "polyg", "entr", linked, "", "plain", "",
+                "tuned", "");
+    for (const auto &c : cases) {
+        const auto t = medians(all_three, c.stream, samples);
+        std::printf("%-20s %6zu %5zu %5zu", c.name.c_str(), c.stream.size(), c.polygons, c.entries);
+        for (double one : t)
+            std::printf(" | %9.1f %7.2f", one * 1e9 / static_cast<double>(c.polygons), one * 1e9 / static_cast<double>(c.stream.size()));
+        std::printf("\n");
+    }
+}
+
+// ---- the stack ----------------------------------------------------------------------------------------------------
+
+struct Call {
+    Entry entry;
+    const std::string *stream;
+    std::vector<std::uint8_t> *room;
+} call;
+
+void run_call() {
+    if (call.entry != nullptr)
+        sink = call.entry(reinterpret_cast<const std::uint8_t *>(call.stream->data()), call.stream->size(), call.room->data(), call.room->size());
+}
+
+// Bytes of a painted stack that one call leaves changed.
+std::size_t painted(Entry entry, const std::string &stream) {
+    static ucontext_t here, there;
+    std::vector<std::uint8_t> stack(1 << 20, 0xC5), room(33 * lines_of(stream));
+    call = {entry, &stream, &room};
+    getcontext(&there);
+    there.uc_stack.ss_sp = stack.data();
+    there.uc_stack.ss_size = stack.size();
+    there.uc_link = &here;
+    makecontext(&there, run_call, 0);
+    swapcontext(&here, &there);
+    std::size_t untouched = 0;
+    while (untouched < stack.size() && stack[untouched] == 0xC5) untouched++;
+    return stack.size() - untouched;
+}
+
+void stacks(const char *linked, const std::vector<Case> &cases) {
+    std::size_t most[3] = {0, 0, 0};
+    for (const auto &c : cases)
+        for (std::size_t e = 0; e < 3; e++)
+            most[e] = std::max(most[e], painted(all_three[e], c.stream) - painted(nullptr, c.stream));
+    std::printf("\nstack of a call by painting, most over all streams above, bytes: %s %zu, plain %zu (and the heap), tuned %zu\n", linked,
+                most[0], most[1], most[2]);
+}
+
+void machine() {
+    std::string line, model = "unknown";
+    std::ifstream cpu("/proc/cpuinfo");
+    while (std::getline(cpu, line))
+        if (line.rfind("model name", 0) == 0) {
+            model = line.substr(line.find(':') + 2);
+            break;
+        }
+    std::string load;
+    std::getline(std::ifstream("/proc/loadavg") >> std::ws, load);
+    std::printf("CPU %s; baselines by %s %s, -O3 -march=native; load average %s\n", model.c_str(),
+#ifdef __clang__
+                "clang",
+#else
+                "g++",
+#endif
+                __VERSION__, load.substr(0, load.find(' ')).c_str());
+}
+
+} // namespace
+
+int main(int argc, char **argv) {
+    const char *linked = argc > 1 ? argv[1] : "checker";
+    const int samples = argc > 2 ? std::max(3, std::atoi(argv[2])) : 301;
+    std::vector<Case> loads, corrected, balls, roofs, every;
+    for (const auto &m : streams::nine_buildings()) {
+        loads.push_back(make_case(m, false));
+        corrected.push_back(make_case(m, true));
+    }
+    for (const auto &[rings, around] : {std::pair{1, 8}, std::pair{2, 8}, std::pair{4, 8}, std::pair{4, 16}, std::pair{8, 16}})
+        balls.push_back(make_case(streams::ball("ball", rings, around), false));
+    for (int n : {4, 8, 16, 32, 64, 127})
+        roofs.push_back(make_case(streams::prism(std::to_string(n) + "-corner roof", streams::star(n, 30000, 50000), 9000), false));
+    for (const auto *some : {&loads, &corrected, &balls, &roofs}) every.insert(every.end(), some->begin(), some->end());
+    for (const auto &c : every) must_agree(c);
+
+    machine();
+    std::printf("all three agree on the %zu streams; medians of %d samples at most, whole calls, processor time\n", every.size(), samples);
+    table("loads", linked, loads, samples);
+    table("loads with 50 moves, 50 turns and 200 questions", linked, corrected, samples);
+    growth("growth with polygons (balls of triangles)", linked, balls, samples);
+    growth("growth with the corners of one roof (prisms)", linked, roofs, samples);
+    stacks(linked, every);
+}

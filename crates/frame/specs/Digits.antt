@@ -1,0 +1,99 @@
+-- Laws of the digits of a line: which bytes they are, and the fields that the code reads from them.
+use Prim.Native.Nat.{ℕ, zero, suc, _+_, _*_, _-_, _/_, _%_, _^_, _≤_, _<_}
+use native.Mathlib.Omega.{arith}
+use native.Mathlib.Numerals.{add-one}
+use native.Mathlib.Nat.{pow-suc, pow-le-pow-right}
+use mathlib.Core.Path.{_≡_, refl, sym, _∙_}
+use mathlib.Core.Bool.{Bool, true, false, _&&_, _||_}
+use mathlib.Core.Logic.{_⊎_, inl, inr, ⊎-elim}
+use mathlib.Core.List.{List, [], _∷_}
+use borrow.Author.Tests.{leb-true, ltb-true, lt-ltb, le-ltb}
+use lib.Dec.{ltb, leb}
+use lib.ListN.{length, take, drop, getD, length-drop, drop-of-length-le}
+use lib.Seq.{take-suc, getD-drop, drop-cons}
+use Rattle.frame.specs.Hex.{isHex, allHex, digitValue, numberFrom, number}
+use Rattle.frame.specs.RoundTrip.{numberFrom-append, and-left, and-right}
+
+-- a line of digits has a field of k digits, a number of the machine, at an offset
+pub record HexField (l : List ℕ) (at k : ℕ) : Type 0 where
+  pub hex : allHex l ≡ true
+  pub inside : at + k ≤ length l
+  pub short : k ≤ 8
+
+-- ---- one digit
+
+pub or-cases : (a b : Bool) → (a || b) ≡ true → (a ≡ true) ⊎ (b ≡ true)
+or-cases true b e = inl refl
+or-cases false b e = inr e
+
+-- the low four bits, and 9 more for a letter
+abbrev pub byBits : ℕ → ℕ
+byBits b = b % 16 + 9 * (b / 64)
+
+module _ (b : ℕ) where
+  digit-low : (leb 48 b && ltb b 58) ≡ true → (byBits b ≡ digitValue b) × (byBits b < 16)
+  unfolding digitValue
+  digit-low e =
+      let h : 48 ≤ b = leb-true 48 b (and-left (leb 48 b) (ltb b 58) e) in
+      let g : b < 58 = ltb-true b 58 (and-right (leb 48 b) (ltb b 58) e) in
+      (rw (lt-ltb b 58 g) (omega arith), omega arith)
+
+  digit-high : (leb 65 b && ltb b 71) ≡ true → (byBits b ≡ digitValue b) × (byBits b < 16)
+  unfolding digitValue
+  digit-high e =
+      let h : 65 ≤ b = leb-true 65 b (and-left (leb 65 b) (ltb b 71) e) in
+      let g : b < 71 = ltb-true b 71 (and-right (leb 65 b) (ltb b 71) e) in
+      let a : 58 ≤ b = omega arith in
+      (rw (le-ltb b 58 a) (omega arith), omega arith)
+
+  pub digit-is : isHex b ≡ true → (byBits b ≡ digitValue b) × (byBits b < 16)
+  unfolding isHex
+  digit-is h = ⊎-elim digit-low digit-high (or-cases (leb 48 b && ltb b 58) (leb 65 b && ltb b 71) h)
+
+-- ---- a line of digits
+
+pub allHex-cons : (b : ℕ) (s : List ℕ) → allHex (b ∷ s) ≡ (isHex b && allHex s)
+unfolding allHex
+allHex-cons b s = go (isHex b) refl
+  where
+    go : (c : Bool) → isHex b ≡ c → allHex (b ∷ s) ≡ (c && allHex s)
+    go true e = rw (e, allHex)
+    go false e = rw (e, allHex)
+
+and-assoc : (a b c : Bool) → (a && b && c) ≡ (a && (b && c))
+and-assoc true b c = refl
+and-assoc false b c = refl
+
+and-true : (a : Bool) → (a && true) ≡ a
+and-true true = refl
+and-true false = refl
+
+-- a turn of the loop that tests a line, r being the test of the byte at i
+pub hex-turn : (s : List ℕ) (i : ℕ) (good r : Bool) → i < length s → r ≡ isHex (getD s i 0) → ((good && r) && allHex (drop (i + 1) s)) ≡ (good && allHex (drop i s))
+hex-turn s i good r h e =
+    rw (add-one, drop-cons s i 0, allHex-cons, ← e) (and-assoc good r (allHex (drop (suc i) s)))
+
+pub hex-end : (s : List ℕ) (i : ℕ) (good : Bool) → length s ≤ i → (good && allHex (drop i s)) ≡ good
+unfolding allHex
+hex-end s i good h = rw drop-of-length-le (and-true good)
+
+pub allHex-at : (s : List ℕ) (i : ℕ) → allHex s ≡ true → i < length s → isHex (getD s i 0) ≡ true
+allHex-at [] i h g = absurd (omega arith)
+allHex-at (b ∷ s) zero h g = and-left (isHex b) (allHex s) (sym (allHex-cons b s) ∙ h)
+allHex-at (b ∷ s) (suc i) h g = allHex-at s i (and-right (isHex b) (allHex s) (sym (allHex-cons b s) ∙ h)) (omega arith)
+
+-- ---- turns of the loop that reads a field
+
+pub number-turn : (s : List ℕ) (at i : ℕ) → at + i < length s → number (take (i + 1) (drop at s)) ≡ number (take i (drop at s)) * 16 + digitValue (getD s (at + i) 0)
+unfolding number numberFrom
+number-turn s at i h =
+    let d : length (drop at s) ≡ length s - at = length-drop at s in
+    let a : i < length (drop at s) = omega arith in
+    rw (add-one i, take-suc (drop at s) i 0 a, getD-drop at s i 0) (numberFrom-append 0 (take i (drop at s)) (getD s (at + i) 0 ∷ []))
+
+pub number-more : (i v d : ℕ) → v < 16 ^ i → d < 16 → v * 16 + d < 16 ^ (i + 1)
+number-more i v d h g = rw (add-one, pow-suc) (omega arith)
+
+-- a number of fewer than 8 digits, and one digit more
+pub number-fits : (i v : ℕ) → i < 8 → v < 16 ^ i → v < 268435456
+number-fits i v h g = omega (arith, pow-le-pow-right {n = 16} (omega arith) {i = i} {j = 7} (omega arith))

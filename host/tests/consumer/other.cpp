@@ -1,0 +1,3 @@
+#include "framecheck.hpp"
+
+framecheck::Answers ask_elsewhere(const char *stream) { return framecheck::answer_all(stream); }

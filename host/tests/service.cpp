@@ -1,0 +1,209 @@
+// The service through its raw entry and the typed answers: the stream in full, the examples at the edges, the bounds, the room.
+#include "check.hpp"
+#include "framecheck.hpp"
+
+#include "streams.hpp"
+
+#include <array>
+#include <set>
+#include <vector>
+
+using namespace framecheck;
+
+namespace {
+
+std::string raw(const std::string &stream) {
+    test::Fenced in(stream.size()), out(33 * Bytes(stream).lines());
+    std::memcpy(in.data(), stream.data(), stream.size());
+    std::memset(out.data(), 0xA5, out.size());
+    const std::int64_t got = answer({in.data(), in.size()}, {out.data(), out.size()});
+    if (got < 0) return std::to_string(got);
+    for (std::size_t i = static_cast<std::size_t>(got); i < out.size(); i++)
+        if (out.data()[i] != 0xA5) return "room after the answer was touched";
+    return std::string(reinterpret_cast<char *>(out.data()), static_cast<std::size_t>(got));
+}
+
+std::string repeat(const std::string &text, int times) {
+    std::string all;
+    for (int i = 0; i < times; i++) all += text;
+    return all;
+}
+
+std::string last_line(const std::string &stream) {
+    const std::string text = raw(stream);
+    const std::size_t end = text.size() - 1, before = text.rfind('\n', end - 1);
+    return text.substr(before == std::string::npos ? 0 : before + 1, end - (before == std::string::npos ? 0 : before + 1));
+}
+
+const std::string worked = "010000\n02000000000000000000000000\n02000003E80000000000000000\n0200000000000003E800000000\n"
+                           "020000000000000000000003E8\n030000000200010000\n030000000100030000\n030000000300020000\n"
+                           "030001000200030001\n04\n050000000500030000000000000000000007D0\n"
+                           "050000000400030000000000000000000003E8\n070000\n070003\n06000000060003\n";
+
+const std::string worked_answer = repeat("00\n", 9) + "0000000000000000000000003B9ACA00\n00000000000000000000000077359400\n07\n"
+                                                       "0000000000000000000000000000\n0000000000050000000077359400\n"
+                                                       "000A000100020000FFFFFFFF88CA6C00\n";
+
+void stream_in_full() {
+    HOLD(raw(worked) == worked_answer);
+    HOLD(raw(worked.substr(0, worked.size() - 1)) == worked_answer);
+    const Answers all = answer_all(worked);
+    HOLD(!all.refused && all.lines.size() == 15);
+    HOLD(std::holds_alternative<Plain>(all.lines[8]));
+    HOLD(all.lines[9] == Answer(Report{Check::accepted, 0, 0, 0, 1000000000}));
+    HOLD(all.lines[10] == Answer(Report{Check::accepted, 0, 0, 0, 2000000000}));
+    HOLD(all.lines[11] == Answer(Refused{Refusal::late}));
+    HOLD(all.lines[13] == Answer(PolygonAnswer{Finding::none, 5, 2000000000}));
+    HOLD(all.lines[14] == Answer(Report{Check::edge_same_direction, 1, 2, 0, -2000000000}));
+}
+
+void empty_and_null() {
+    HOLD(checker_answer(nullptr, 0, nullptr, 0) == 0);
+    HOLD(answer({}, {}) == 0);
+    HOLD(answer(nullptr, nullptr) == 0);
+    HOLD(answer("", nullptr) == 0);
+    HOLD(answer(std::string_view(), {}) == 0);
+    HOLD(answer(std::vector<std::uint8_t>(), {}) == 0);
+    std::array<std::uint8_t, 40> room{};
+    HOLD(answer(nullptr, room) == 0);
+    HOLD(answer("04", room) == 3 && std::memcmp(room.data(), "02\n", 4) == 0);
+    HOLD(answer(std::string("\n"), room) == 3 && room[1] == '1');
+    std::array<char, 4> short_room{'x', 'x', 'x', 'x'};
+    HOLD(answer("04", short_room) == -3 && short_room[0] == 'x');
+    HOLD(answer("04", nullptr) == -3);
+    HOLD(answer_all(nullptr).lines.empty() && !answer_all("").refused);
+    HOLD(answer_all("04").lines.size() == 1);
+}
+
+void whole_stream_refusals() {
+    const std::string longest = std::string(65535, '0'), longer = longest + "0";
+    std::vector<std::uint8_t> room(33 * 1024, 7);
+    HOLD(answer(longest, room) == 3);
+    room.assign(room.size(), 7);
+    HOLD(answer(longer, room) == -1 && room[0] == 7);
+    HOLD(answer(longer, nullptr) == -1);
+    HOLD(answer(std::string(65536, '\n'), room) == -1);
+    HOLD(answer(std::string(1025, '\n'), room) == -2 && room[0] == 7);
+    HOLD(answer(std::string(1025, '\n'), nullptr) == -2);
+    HOLD(answer(std::string(1024, '\n') + "0", room) == -2);
+    HOLD(answer(std::string(1024, '\n'), Room(room.data(), 33 * 1024 - 1)) == -3 && room[0] == 7);
+    HOLD(answer(std::string(1024, '\n'), Room(room.data(), 33 * 1024)) == 3 * 1024);
+    HOLD(answer_all(longer).refused == StreamRefusal::too_long);
+    HOLD(answer_all(std::string(1025, '\n')).refused == StreamRefusal::too_many_lines);
+    HOLD(answer_all(std::string(1024, '\n')).lines.size() == 1024);
+    for (std::size_t lines = 0; lines < 5; lines++)
+        for (std::size_t size = 0; size < 33 * lines; size += 16)
+            HOLD(answer(std::string(lines, '\n'), Room(room.data(), size)) == -3);
+}
+
+// A building of one ring over points of its own.
+std::string one_ring(const std::vector<streams::Place> &points, const streams::Ring &ring, int tolerance = 0) {
+    return streams::load({"", tolerance, points, {ring}});
+}
+
+void examples_at_the_edges() {
+    const auto bent = [](int h) { return one_ring({{0, 0, 0}, {1000, 0, 0}, {1000, 1000, 0}, {0, 1000, h}}, {0, 1, 2, 3, 0}, 10); };
+    HOLD(last_line(bent(20)).substr(0, 16) == "0007000100000000");
+    HOLD(last_line(bent(21)).substr(0, 16) == "0006000000000001");
+    const auto bow = [](int y) { return one_ring({{0, 0, 0}, {1000, 1000, 0}, {1000, 0, 0}, {0, y, 0}}, {0, 1, 2, 3, 0}); };
+    HOLD(last_line(bow(1000)).substr(0, 16) == "0004000000000001");
+    HOLD(last_line(bow(2000)).substr(0, 16) == "0005000000000001");
+    HOLD(last_line(one_ring({}, {})).substr(0, 16) == "0001000000000001");
+    HOLD(last_line(one_ring({{0, 0, 0}, {1, 0, 0}}, {0, 1, 0})).substr(0, 16) == "0001000000000001");
+    HOLD(last_line(one_ring({{0, 0, 0}, {1, 0, 0}}, {0, 1, 0, 1})).substr(0, 16) == "0002000000000001");
+    auto tetrahedron = streams::tetrahedron();
+    HOLD(last_line(streams::load(tetrahedron)) == "0000000000000000000000003B9ACA00");
+    for (auto &ring : tetrahedron.rings) std::reverse(ring.begin(), ring.end());
+    HOLD(last_line(streams::load(tetrahedron)) == "000D000000000000FFFFFFFFC4653600");
+    tetrahedron.rings.pop_back();
+    HOLD(last_line(streams::load(tetrahedron)).substr(0, 16) == "0007000300000000");
+    HOLD(last_line("010000\n04\n") == "00070000000000000000000000000000");
+
+    HOLD(last_line("010000\n" + streams::point({100000, -100000, 100000})) == "00");
+    HOLD(last_line("010000\n" + streams::point({100001, 0, 0})) == "03");
+    HOLD(last_line("010000\n" + streams::point({0, 0, -100001})) == "03");
+    HOLD(last_line("010000\n02800000007FFFFFFF00000000\n") == "03");
+    HOLD(last_line("0103E8\n") == "00");
+    HOLD(last_line("0103E9\n") == "03");
+    HOLD(last_line("010000\n" + streams::point({0, 0, 0}) + "03" + repeat("0000", 128) + "\n") == "00");
+    HOLD(last_line("010000\n" + streams::point({0, 0, 0}) + "03" + repeat("0000", 129) + "\n") == "01");
+    const std::string held = streams::load(streams::tetrahedron());
+    HOLD(last_line(held + streams::turn(0xFFFFFFFFu, 0)).size() == 32);
+    HOLD(last_line(held + streams::turn(0xFFFFFFFFu, 0) + streams::turn(0xFFFFFFFFu, 0)) == "07");
+    HOLD(last_line(held + streams::turn(0xFFFFFFFFu, 0) + streams::turn(1, 0)) == "07");
+    HOLD(last_line(held + streams::turn(0, 0)) == "07");
+}
+
+void order_of_refusals() {
+    const std::string held = streams::load(streams::tetrahedron()) + streams::turn(9, 0);
+    HOLD(last_line(held + streams::move(9, 77, {100001, 0, 0})) == "07");
+    HOLD(last_line(held + streams::move(10, 77, {100001, 0, 0})) == "05");
+    HOLD(last_line(held + streams::move(10, 0, {100001, 0, 0})) == "03");
+    HOLD(last_line(held + streams::move(10, 0, {1000, 0, 0})) == "06");
+    HOLD(last_line(held + streams::move(10, 0, {0, 0, 0})).size() == 32);
+    HOLD(last_line(held + streams::point({7, 7, 7})) == "02");
+    HOLD(last_line("010000\n" + streams::question(0)) == "02");
+    HOLD(last_line("05\n") == "01");
+    HOLD(last_line("0600000001000\n") == "01");
+    HOLD(last_line("01000a\n") == "01");
+    HOLD(last_line("010000\r\n") == "01");
+    HOLD(last_line("080000\n") == "01");
+    std::string full = "010000\n";
+    for (int i = 0; i < 512; i++) full += streams::point({i, 0, 0});
+    HOLD(last_line(full + streams::point({0, 100001, 0})) == "03");
+    HOLD(last_line(full + streams::point({0, 0, 0})) == "04");
+    for (int i = 0; i < 256; i++) full += "03\n";
+    HOLD(last_line(full + "030200\n") == "05");
+    HOLD(last_line(full + "03\n") == "04");
+}
+
+void answers_are_typed() {
+    HOLD(std::holds_alternative<Plain>(read_answer("00")));
+    for (int n = 1; n <= 7; n++) HOLD(read_answer("0" + std::to_string(n)) == Answer(Refused{static_cast<Refusal>(n)}));
+    HOLD(read_answer("000D000100020003FFFFFFFFFFFFFFFF") == Answer(Report{Check::no_volume, 1, 2, 3, -1}));
+    HOLD(read_answer("00000000000000008000000000000000") == Answer(Report{Check::accepted, 0, 0, 0, INT64_MIN}));
+    HOLD(read_answer("0006FFFFFFFF7FFFFFFFFFFFFFFF") == Answer(PolygonAnswer{Finding::not_planar, 0xFFFFFFFFu, INT64_MAX}));
+    for (const char *bad : {"", "0", "08", "0a", "000", "10000000000000000000000000000000", "000E0000000000000000000000000000",
+                            "0007000000000000000000000000", "0000000000000000000000003B9ACA0x"}) {
+        bool thrown = false;
+        try {
+            read_answer(bad);
+        } catch (const Unreadable &) {
+            thrown = true;
+        }
+        HOLD(thrown);
+    }
+    std::set<std::string_view> sentences;
+    for (int c = 0; c <= 0x0D; c++) sentences.insert(sentence(static_cast<Check>(c)));
+    for (int r = 1; r <= 7; r++) sentences.insert(sentence(static_cast<Refusal>(r)));
+    for (int r = -3; r <= -1; r++) sentences.insert(sentence(static_cast<StreamRefusal>(r)));
+    HOLD(sentences.size() == 14 + 7 + 3);
+    HOLD(sentence(Finding::open_ring) == sentence(Check::open_ring));
+    HOLD(number_of(Check::edge_same_direction) == 10 && number_of(StreamRefusal::room_too_short) == -3);
+    HOLD(Report{Check::accepted, 0, 0, 0, 3120000000000}.cubic_metres() == 520.0);
+    HOLD(cubic_metres(-6000000000) == -1.0 && cubic_metres(0) == 0.0);
+}
+
+// Streams and rooms between forbidden pages, and answers the same from two places in memory and twice in a row.
+void fenced_streams(int count) {
+    for (int seed = 0; seed < count; seed++) {
+        const std::string stream = streams::any_stream(static_cast<std::uint64_t>(seed) + 5000000);
+        const std::string once = raw(stream);
+        const Answers typed = answer_all(stream);
+        HOLD(typed.refused ? once == std::to_string(number_of(*typed.refused)) : typed.lines.size() == Bytes(stream).lines());
+        HOLD(once != "room after the answer was touched" && once == raw(stream));
+    }
+}
+
+} // namespace
+
+int main(int argc, char **argv) {
+    stream_in_full();
+    empty_and_null();
+    whole_stream_refusals();
+    examples_at_the_edges();
+    order_of_refusals();
+    answers_are_typed();
+    fenced_streams(argc > 1 ? std::atoi(argv[1]) : 500);
+    return test::finish();
+}
