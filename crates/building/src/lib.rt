@@ -193,8 +193,8 @@ fn turn_ring(
     reverse_in(entries, from, to);
     let all = &entries[..];
     let before = parts[p];
-    let part = turned_part(points, &all[from..to], before);
-    parts[p] = part;
+    let after = turned_part(points, &all[from..to], before);
+    parts[p] = after;
 }
 
 // "Turn reverses the polygon's whole list of entries, closing entry included", and stamps it.
@@ -385,10 +385,10 @@ fn check_rings(
 {
     let polygons = s.polygons;
     let tolerance = s.tolerance;
-    let mut p = 0;
-    while p < polygons {
-        refresh(points, entries, starts, findings, parts, tolerance, p);
-        p += 1;
+    let mut i = 0;
+    while i < polygons {
+        refresh(points, entries, starts, findings, parts, tolerance, i);
+        i += 1;
     }
 }
 

@@ -9,10 +9,10 @@ use Rattle.building.proofs.check_rings.Statement.{statement}
 use Rattle.building.proofs.check_rings.Tie as tie
 
 abbrev Inv-loop : tie.InvT-loop
-Inv-loop points entries starts findings₀ parts₀ polygons tolerance p₀ findings parts p = (p ≤ polygons) × Checked tolerance points entries starts p findings₀ parts₀ findings parts
+Inv-loop points entries starts findings₀ parts₀ polygons tolerance i₀ findings parts i = (i ≤ polygons) × Checked tolerance points entries starts i findings₀ parts₀ findings parts
 
 abbrev μ-loop : tie.MeasureT-loop
-μ-loop points entries starts findings₀ parts₀ polygons tolerance p₀ findings parts p = polygons - p
+μ-loop points entries starts findings₀ parts₀ polygons tolerance i₀ findings parts i = polygons - i
 
 loop-holds : tie.Need-loop-holds Inv-loop μ-loop
 loop-holds c =
@@ -27,7 +27,7 @@ refresh-requires c κs =
     let ld = s .pre .0 in (
       ld .coords,
       (
-        ring-of ld (lp .p) (c .before .before .loop-test .taken),
+        ring-of ld (lp .i) (c .before .before .loop-test .taken),
         (
           ld .tolerant,
           (
@@ -38,8 +38,8 @@ refresh-requires c κs =
       ),
     )
 
-add-p : tie.Need-add-p Inv-loop μ-loop
-add-p c = search needs
+add-i : tie.Need-add-i Inv-loop μ-loop
+add-i c = search needs
 
 loop-less : tie.Need-loop-less Inv-loop μ-loop
 loop-less c = search needs
@@ -54,10 +54,10 @@ returns : tie.Need-returns Inv-loop μ-loop
 returns c =
     let a = c .before .before .args in
     let lp = c .before .loop in
-    let e : lp .p ≡ a .s .polygons = omega arith in
+    let e : lp .i ≡ a .s .polygons = omega arith in
     subst (λ (m : ℕ). Checked (a .s .tolerance) (a .points .now) (a .entries .now) (a .starts .now) m (a .findings .now) (a .parts .now) (lp .findings) (lp .parts)) e (lp .inv .1)
 
 pub check-rings-spec : {M : Type 1} → statement M
 check-rings-spec =
     tie.close
-    (tie.spec Inv-loop μ-loop loop-holds refresh-requires add-p loop-less loop-again returns)
+    (tie.spec Inv-loop μ-loop loop-holds refresh-requires add-i loop-less loop-again returns)

@@ -60,11 +60,11 @@ turned-part-requires c κs =
     let r = s .pre .1 .0 in
     (s .pre .0, (own-known r e, own-before r e (s .args .points .now) _ (record { sfits = c .before .before2 .given }) (s .pre .1 .1 .1)))
 
-mul-part : tie.Need-mul-part
-mul-part c = search needs
+mul-after : tie.Need-mul-after
+mul-after c = search needs
 
-element-set-from-part : tie.Need-element-set-from-part
-element-set-from-part c = search needs
+element-set-from-after : tie.Need-element-set-from-after
+element-set-from-after c = search needs
 
 returns : tie.Need-returns
 returns c =
@@ -92,6 +92,6 @@ turn-ring-spec =
     part-turned-part-start
     part-turned-part-end
     turned-part-requires
-    mul-part
-    element-set-from-part
+    mul-after
+    element-set-from-after
     returns)
