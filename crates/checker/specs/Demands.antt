@@ -23,10 +23,12 @@ use Rattle.checker.specs.declared.Refusal.the-variants.{Late}
 use Rattle.checker.specs.Service.{State, nothing, holding, tablesOf, buildingOf, refusal, refusalNumber, reportOf, toldOf, step}
 use Rattle.checker.specs.Stream.{Served, wholeRefusal, served, answers}
 use Rattle.checker.specs.Refusals.{accepts, refused-line, after, struck, answersTo, acceptedAnswers, struck-stream}
-use Rattle.checker.specs.Fresh.{freshReport, isCorrection}
-use Rattle.checker.specs.Span.{Span, loadedBy, correctionsOf, correctedBy, held, held-tables, stamp-is, correction-fresh, freshHeld, SameButStamp, question-fresh, Numbered, late-correction}
+use Rattle.checker.specs.Fresh.{loadLines, freshReport, isCorrection}
+use Rattle.checker.specs.Span.{Span, loadedBy, correctionsOf, correctedBy, held, held-tables, stamp-is, correction-fresh, freshHeld, SameButStamp, question-fresh, Numbered, late-correction, end-reports}
 use Rattle.checker.specs.Short.{step-short}
 use Rattle.checker.specs.Room as R
+use Rattle.checker.specs.Stream.{run, Answers}
+use Rattle.checker.specs.Entry.{answer-agrees, answers-last, freshStream, fresh-answers, entry-bytes, entry-refused}
 
 -- ---- 1. "Every sequence of bytes gets a fixed answer."
 
@@ -114,3 +116,47 @@ module _ (before : List (List ℕ)) (end : List ℕ) (since : List (List ℕ)) (
 -- "and striking out all refused frames changes no other answer."
 pub strike-out : (stream left : List ℕ) → lines left ≡ struck nothing (lines stream) → answers left ≡ joined (acceptedAnswers nothing (lines stream))
 strike-out = struck-stream
+
+-- ---- of the code
+-- `checker_answer` is proved to return a number and to leave a room of which `Answers stream room` holds, for every stream and room.
+
+-- 1. A caller may hand over any bytes and any room: what comes back is fixed.
+pub code-fixed : (stream room : List ℕ) (c₁ c₂ : ℤ) (r₁ r₂ : List ℕ) → Answers stream room c₁ r₁ → Answers stream room c₂ r₂ → (c₁ ≡ c₂) × (r₁ ≡ r₂)
+code-fixed = answer-agrees
+
+module _ (stream room : List ℕ) (code : ℤ) (room′ : List ℕ) (returned : Answers stream room code room′) where
+  -- A number below zero tells why, and the room is as it was.
+  pub code-too-long : 65535 < length stream → (code ≡ negsuc 0) × (room′ ≡ room)
+  code-too-long h = entry-refused stream room code room′ returned (negsuc 0) (too-long stream room h)
+
+  pub code-too-many : length stream ≤ 65535 → 1024 < length (lines stream) → (code ≡ negsuc 1) × (room′ ≡ room)
+  code-too-many a h = entry-refused stream room code room′ returned (negsuc 1) (too-many-lines stream room a h)
+
+  pub code-too-narrow : length stream ≤ 65535 → length (lines stream) ≤ 1024 → length room < 33 * length (lines stream) → (code ≡ negsuc 2) × (room′ ≡ room)
+  code-too-narrow a b h = entry-refused stream room code room′ returned (negsuc 2) (too-little-room stream room a b h)
+
+  module _ (a : length stream ≤ 65535) (b : length (lines stream) ≤ 1024) (c : 33 * length (lines stream) ≤ length room) where
+    -- Any other number counts the answer bytes at the front of the room; the rest of the room is as it was.
+    pub code-answers : (code ≡ pos (length (answers stream))) × (room′ ≡ answers stream ++ drop (length (answers stream)) room)
+    code-answers = entry-bytes stream room code room′ returned a b c
+
+    -- 2. A stream that ends a load is answered last by the report of its tables, whose verdict and count are those of the thirteen checks.
+    pub code-report : (before : List (List ℕ)) (end : List ℕ) → lines stream ≡ before ++ (end ∷ []) → Span before end []
+        → room′ ≡ (run nothing before ++ ended (reportOf (loadedBy before))) ++ drop (length (answers stream)) room
+    code-report before end e s =
+        code-answers .1
+        ∙ ap (λ (q : List ℕ). q ++ drop (length (answers stream)) room) (answers-last stream before end e ∙ ap (λ (q : List ℕ). run nothing before ++ ended q) (end-reports before end s))
+
+    -- 3. A stream whose last line is an accepted correction is answered last by what the bytes of a fresh load of the corrected tables are answered last.
+    pub code-correction : (before : List (List ℕ)) (end : List ℕ) (since : List (List ℕ)) (l : List ℕ) → Span before end since → lines stream ≡ (before ++ end ∷ since) ++ (l ∷ [])
+        → accepts (held before end since) l ≡ true → isCorrection (decode l) ≡ true
+        → room′ ≡ (run nothing (before ++ end ∷ since) ++ ended (freshReport (correctedBy before (since ++ (l ∷ []))))) ++ drop (length (answers stream)) room
+    unfolding held
+    code-correction before end since l s e t k =
+        code-answers .1
+        ∙ ap (λ (q : List ℕ). q ++ drop (length (answers stream)) room)
+        (answers-last stream (before ++ end ∷ since) l e ∙ ap (λ (q : List ℕ). run nothing (before ++ end ∷ since) ++ ended q) (same-report before end since s l t k))
+
+-- the bytes of a fresh load, and what they are answered last
+pub fresh-load : (t : Tables) → answers (freshStream t) ≡ run nothing (loadLines t) ++ ended (freshReport t)
+fresh-load = fresh-answers

@@ -76,6 +76,11 @@ module _ (before : List (List ℕ)) (end : List ℕ) (since : List (List ℕ)) w
     unfolding buildingOf
     stamp-is n h = ap (λ (st : State). getD (buildingOf st .stamps) n 0) held-told ∙ stamp-told (loadedBy before) (correctionsOf before since) n h
 
+-- the end of load itself answers the report of the tables loaded
+pub end-reports : (before : List (List ℕ)) (end : List ℕ) → Span before end [] → step (after nothing before) end .answer ≡ reportOf (loadedBy before)
+unfolding answerTo takes tablesOf loadedBy loaded
+end-reports before end s = ap (λ (o : Outcome). o .answer) (accepted-line (after nothing before) end (s .accepted)) ∙ ap (λ (f : Frame). answerTo f (takes (after nothing before) f)) (s .ends)
+
 -- ---- one correction more
 
 not-begin : (f : Frame) → isCorrection f ≡ true → isBegin f ≡ false

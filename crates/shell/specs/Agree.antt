@@ -1,14 +1,11 @@
 -- Any two results that a public function's statement allows agree.
 use Prim.Native.Nat.{ℕ}
-use mathlib.Core.Path.{_≡_, sym, _∙_}
+use mathlib.Core.Path.{_≡_}
 use mathlib.Core.List.{List}
+use Rattle.whole.specs.Agree.{agree}
 use Rattle.shell.specs.declared.Shape.{Shape}
 use Rattle.shell.specs.Shell.{shape}
 use Rattle.shell.specs.Kept.{Built, Edged, Known}
-
--- what equals one thing is one thing
-pub agree : {A : Type 0} {x y z : A} → x ≡ z → y ≡ z → x ≡ y
-agree p q = p ∙ sym q
 
 -- `built`: the array, the count and the verdict
 pub built-agree : (es st : List ℕ) (n : ℕ) (room t t′ : List ℕ) (k k′ : ℕ) (f f′ : Shape) → Built es st n room t k f → Built es st n room t′ k′ f′ → (t ≡ t′) × (k ≡ k′) × (f ≡ f′)

@@ -1,0 +1,77 @@
+-- From lines to bytes: what the entry's statement says of one line of a stream, and a fresh load as bytes.
+use Prim.Native.Nat.{ℕ, zero, suc, _+_, _*_, _≤_, _<_}
+use mathlib.Core.Path.{_≡_, refl, sym, ap, _∙_, subst}
+use mathlib.Core.Bool.{Bool, true, false}
+use mathlib.Core.List.{List, [], _∷_, _++_, map, append-assoc, append-nil}
+use lib.ListN.{length, drop}
+use lib.IntN.{ℤ, pos}
+use Rattle.whole.specs.Agree.{agree}
+use Rattle.whole.specs.All.{All, none, more, all-append}
+use Rattle.frame.specs.Lines.{lines, ended, joined}
+use Rattle.frame.specs.LineLaws.{NoFeed, lines-joined}
+use Rattle.frame.specs.Frame.{Frame, begin, point, polygon, end-of-load}
+use Rattle.frame.specs.Encode.{encode}
+use Rattle.frame.specs.Written.{encode-no-feed}
+use Rattle.polygon.specs.Space.{Point}
+use Rattle.building.specs.Tables.{Tables, Polygon}
+use Rattle.checker.specs.Service.{State, nothing, step}
+use Rattle.checker.specs.Stream.{Served, run, answers, served, Answers}
+use Rattle.checker.specs.Refusals.{after}
+use Rattle.checker.specs.Fresh.{pointLine, polygonLine, loadLines, freshReport}
+use Rattle.checker.specs.Room.{answered-stream}
+
+-- any two results that the entry's statement allows agree
+pub answer-agrees : (stream room : List ℕ) (c₁ c₂ : ℤ) (r₁ r₂ : List ℕ) → Answers stream room c₁ r₁ → Answers stream room c₂ r₂ → (c₁ ≡ c₂) × (r₁ ≡ r₂)
+answer-agrees stream room c₁ c₂ r₁ r₂ a b = (agree (a .number) (b .number), agree (a .bytes) (b .bytes))
+
+-- the answers to some lines and one more
+run-last : (st : State) (ls : List (List ℕ)) (l : List ℕ) → run st (ls ++ (l ∷ [])) ≡ run st ls ++ ended (step (after st ls) l .answer)
+unfolding run after
+run-last st [] l = append-nil (ended (step st l .answer))
+run-last st (m ∷ ls) l =
+    ap (λ (q : List ℕ). ended (step st m .answer) ++ q) (run-last (step st m .next) ls l)
+    ∙ sym (append-assoc (ended (step st m .answer)) (run (step st m .next) ls) (ended (step (after (step st m .next) ls) l .answer)))
+
+-- what a stream answers last
+pub answers-last : (stream : List ℕ) (ls : List (List ℕ)) (l : List ℕ) → lines stream ≡ ls ++ (l ∷ []) → answers stream ≡ run nothing ls ++ ended (step (after nothing ls) l .answer)
+unfolding answers
+answers-last stream ls l e = ap (run nothing) e ∙ run-last nothing ls l
+
+-- the bytes of a fresh load: "begin with the same tolerance, the points, the polygons, end of load"
+unfoldable pub freshStream : Tables → List ℕ
+freshStream t = joined (loadLines t ++ (encode end-of-load ∷ []))
+
+points-no-feed : (ps : List Point) → All NoFeed (map pointLine ps)
+unfolding pointLine
+points-no-feed [] = none
+points-no-feed (p ∷ ps) = more (encode-no-feed (point (p .x) (p .y) (p .z))) (points-no-feed ps)
+
+polygons-no-feed : (rs : List Polygon) → All NoFeed (map polygonLine rs)
+unfolding polygonLine
+polygons-no-feed [] = none
+polygons-no-feed (r ∷ rs) = more (encode-no-feed (polygon r)) (polygons-no-feed rs)
+
+pub fresh-lines : (t : Tables) → lines (freshStream t) ≡ loadLines t ++ (encode end-of-load ∷ [])
+unfolding freshStream loadLines
+fresh-lines t =
+    lines-joined (loadLines t ++ (encode end-of-load ∷ []))
+    (all-append (more (encode-no-feed (begin (t .tolerance))) (all-append (points-no-feed (t .points)) (polygons-no-feed (t .polygons)))) (more (encode-no-feed end-of-load) none))
+
+-- fed to the same service, it answers the fresh report last
+pub fresh-answers : (t : Tables) → answers (freshStream t) ≡ run nothing (loadLines t) ++ ended (freshReport t)
+unfolding freshReport
+fresh-answers t = answers-last (freshStream t) (loadLines t) (encode end-of-load) (fresh-lines t)
+
+-- ---- what the entry left in the room
+
+module _ (stream room : List ℕ) (code : ℤ) (room′ : List ℕ) (returned : Answers stream room code room′) where
+  -- a stream that is not refused as a whole
+  pub entry-bytes : length stream ≤ 65535 → length (lines stream) ≤ 1024 → 33 * length (lines stream) ≤ length room
+      → (code ≡ pos (length (answers stream))) × (room′ ≡ answers stream ++ drop (length (answers stream)) room)
+  entry-bytes a b c =
+      let s : served stream room ≡ _ = answered-stream stream room a b c in
+      (returned .number ∙ ap (λ (q : Served). q .code) s, returned .bytes ∙ ap (λ (q : Served). q .room) s)
+
+  -- a stream refused as a whole, with its number n
+  pub entry-refused : (n : ℤ) → served stream room ≡ record { code = n; room = room } → (code ≡ n) × (room′ ≡ room)
+  entry-refused n s = (returned .number ∙ ap (λ (q : Served). q .code) s, returned .bytes ∙ ap (λ (q : Served). q .room) s)
