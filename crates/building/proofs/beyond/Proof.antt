@@ -1,4 +1,4 @@
--- `building::beyond` meets its contract.
+-- `building::beyond` meets its contract: the two tests of a machine number are the test of its size.
 use mathlib.Core.Path.{ap, _∙_}
 use mathlib.Core.Bool.{_||_}
 use lib.IntN.{ℤ, pos, negsuc}

@@ -1,4 +1,4 @@
--- `building::check_all` meets its contract.
+-- `building::check_all` meets its contract, by the law of end of load (`did-loaded`), with the edge table or with a ring that needs none.
 use mathlib.Core.Logic.{inl, inr}
 use Rattle.shell.specs.declared.Shape.the-variants.{Whole}
 use Rattle.building.specs.Holds.{arrays}

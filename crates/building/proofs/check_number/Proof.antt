@@ -1,4 +1,4 @@
--- `building::check_number` meets its contract.
+-- `building::check_number` meets its contract, case by case.
 use mathlib.Core.Path.{sym, ap, _∙_}
 use borrow.Author.Needs.{needs}
 use Rattle.building.specs.Report.{checkNumber}

@@ -1,4 +1,4 @@
--- `building::check_rings` meets its contract.
+-- `building::check_rings` meets its contract. The loop keeps: the polygons before i are checked.
 use Prim.Native.Nat.{ℕ, _-_, _≤_}
 use mathlib.Core.Path.{_≡_, _∙_, subst}
 use native.Mathlib.Omega.{arith}

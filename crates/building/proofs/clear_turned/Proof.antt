@@ -1,4 +1,4 @@
--- `building::clear_turned` meets its contract.
+-- `building::clear_turned` meets its contract. The loop keeps: the flags before p are 0.
 use Prim.Native.Nat.{_-_, _≤_}
 use mathlib.Core.Path.{_≡_, ap, _∙_}
 use native.Mathlib.Omega.{arith}

@@ -1,4 +1,4 @@
--- `building::close_ring` meets its contract.
+-- `building::close_ring` meets its contract: one store.
 use borrow.Author.Needs.{needs}
 use Rattle.building.proofs.close_ring.Statement.{statement}
 use Rattle.building.proofs.close_ring.Tie as tie

@@ -1,4 +1,4 @@
--- `building::else_at` meets its contract.
+-- `building::else_at` meets its contract, by whether the point is number n.
 use Rattle.polygon.specs.Space.{Point, samePlace}
 use Rattle.polygon.specs.Held.{placeAt}
 use mathlib.Core.Path.{sym, ap, _∙_}

@@ -1,4 +1,4 @@
--- `building::faults_of` meets its contract.
+-- `building::faults_of` meets its contract. The loop keeps: the count, with the tally of what is left, is the whole tally.
 use Prim.Native.Nat.{_-_}
 use mathlib.Core.Logic.{⊎-elim}
 use native.Mathlib.Omega.{arith}

@@ -1,4 +1,4 @@
--- `building::finding_from` meets its contract.
+-- `building::finding_from` meets its contract, case by case.
 use borrow.Author.Needs.{needs}
 use Rattle.polygon.specs.Ring.{findingNumber}
 use Rattle.building.proofs.finding_from.Statement.{statement}

@@ -1,4 +1,4 @@
--- `building::is_far` meets its contract.
+-- `building::is_far` meets its contract: its three tests are those of the definition, the numbers read back from their bits.
 use mir.Syntax.{w64}
 use mir.Val.{ofZ, toZ}
 use Rattle.building.specs.Places.{far-is, point-bits}

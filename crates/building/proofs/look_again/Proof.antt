@@ -1,4 +1,4 @@
--- `building::look_again` meets its contract.
+-- `building::look_again` meets its contract. The loop keeps: the polygons before p are looked at again, and no other.
 use Prim.Native.Nat.{ℕ, _-_, _≤_}
 use mathlib.Core.Path.{_≡_, _∙_, subst}
 use native.Mathlib.Omega.{arith}

@@ -1,4 +1,4 @@
--- `building::lowest_early` meets its contract.
+-- `building::lowest_early` meets its contract. The loop keeps: no polygon before i fails one of checks 01 to 03.
 use Prim.Native.Nat.{_-_}
 use mathlib.Core.Path.{sym, _∙_}
 use borrow.Author.Needs.{needs}

@@ -1,4 +1,4 @@
--- `building::lowest_of` meets its contract.
+-- `building::lowest_of` meets its contract. The loop keeps: the lowest of what is left tells of them all.
 use Prim.Native.Nat.{_-_}
 use native.Mathlib.Omega.{arith}
 use borrow.Author.Needs.{needs}

@@ -1,4 +1,4 @@
--- `building::move_point` meets its contract.
+-- `building::move_point` meets its contract, by the law of a move (`did-moved`).
 use mathlib.Core.Path.{sym, ap, _∙_, subst}
 use mathlib.Core.List.{List}
 use lib.IntN.{ℤ}

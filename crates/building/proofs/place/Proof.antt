@@ -1,4 +1,4 @@
--- `building::place` meets its contract.
+-- `building::place` meets its contract: three stores.
 use borrow.Author.Needs.{needs}
 use Rattle.building.proofs.place.Statement.{statement}
 use Rattle.building.proofs.place.Tie as tie

@@ -1,4 +1,4 @@
--- `building::refresh` meets its contract.
+-- `building::refresh` meets its contract: what the polygon's code gives for the ring is stored.
 use Prim.Native.Nat.{ℕ}
 use mathlib.Core.Path.{ap, _∙_}
 use lib.ListN.{set}

@@ -1,4 +1,4 @@
--- `building::reverse_in` meets its contract.
+-- `building::reverse_in` meets its contract. The loop keeps: what is done, joined with what is still to be reversed, gives the whole.
 use Prim.Native.Nat.{_-_}
 use mathlib.Core.Path.{_≡_}
 use native.Mathlib.Omega.{arith}

@@ -1,4 +1,4 @@
--- `building::same_place` meets its contract.
+-- `building::same_place` meets its contract: bits are the same exactly where the numbers are.
 use Rattle.polygon.specs.Held.{placeAt}
 use Rattle.building.specs.Places.{place-is}
 use borrow.Author.Needs.{needs}

@@ -1,4 +1,4 @@
--- `building::shape_a` meets its contract.
+-- `building::shape_a` meets its contract, case by case.
 use borrow.Author.Needs.{needs}
 use Rattle.shell.specs.Shell.{shapeA}
 use Rattle.building.proofs.shape_a.Statement.{statement}

@@ -1,4 +1,4 @@
--- `building::shape_b` meets its contract.
+-- `building::shape_b` meets its contract, case by case.
 use borrow.Author.Needs.{needs}
 use Rattle.shell.specs.Shell.{shapeB}
 use Rattle.building.proofs.shape_b.Statement.{statement}

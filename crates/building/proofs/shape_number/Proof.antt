@@ -1,4 +1,4 @@
--- `building::shape_number` meets its contract.
+-- `building::shape_number` meets its contract, case by case.
 use borrow.Author.Needs.{needs}
 use Rattle.shell.specs.Shell.{shapeNumber}
 use Rattle.building.proofs.shape_number.Statement.{statement}

@@ -1,4 +1,4 @@
--- `building::six_volume` meets its contract.
+-- `building::six_volume` meets its contract. The loop keeps: the total is the sum of the first i parts, which fits.
 use Prim.Native.Nat.{_-_, _≤_}
 use mathlib.Core.Path.{_≡_, refl, ap, _∙_}
 use native.Mathlib.Omega.{arith}

@@ -1,4 +1,4 @@
--- `building::stands_else` meets its contract.
+-- `building::stands_else` meets its contract. The loop keeps: what is left of the points tells of them all.
 use Rattle.polygon.specs.Space.{Point}
 use mir.Syntax.{w64}
 use mir.Val.{toZ}

@@ -1,4 +1,4 @@
--- `building::touch` meets its contract.
+-- `building::touch` meets its contract, by whether the ring lists the point.
 use mathlib.Core.Path.{sym, _∙_}
 use Rattle.building.specs.Steps.{touched-yes, touched-no}
 use borrow.Author.Needs.{needs}

@@ -1,4 +1,4 @@
--- `building::turn_polygon` meets its contract.
+-- `building::turn_polygon` meets its contract, by the law of a turn (`did-turned`).
 use mathlib.Core.Path.{refl}
 use Rattle.building.specs.Holds.{arrays}
 use Rattle.building.specs.Rings.{ring-of}

@@ -1,4 +1,4 @@
--- `building::turn_ring` meets its contract.
+-- `building::turn_ring` meets its contract: the part is asked of the ring as it stands turned.
 use mathlib.Core.Path.{ap, _∙_}
 use lib.ListN.{set}
 use lib.IntN.{ℤ}

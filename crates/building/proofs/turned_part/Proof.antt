@@ -1,4 +1,4 @@
--- `building::turned_part` meets its contract.
+-- `building::turned_part` meets its contract: the part of a closed ring changes its sign, and that of an open one is summed.
 use mathlib.Core.Path.{sym, _∙_}
 use borrow.Author.Tests.{not-true}
 use Rattle.polygon.specs.Ring.{isUnclosed}

@@ -1,4 +1,4 @@
--- `building::verdict_of` meets its contract.
+-- `building::verdict_of` meets its contract: each answer is the first row given, what is kept telling each row.
 use mir.Syntax.{w64}
 use Rattle.whole.specs.Size.{call-is}
 use Rattle.building.specs.Told.{kept-summable, told-number, told-faulty, told-edged, says-unsound, says-inward, says-accepted}
