@@ -1,9 +1,10 @@
 -- For each public function: any two results that its statement allows are one.
 use Prim.Native.Nat.{ℕ}
-use mathlib.Core.Path.{_≡_, sym, _∙_}
+use mathlib.Core.Path.{_≡_}
 use mathlib.Core.List.{List}
 use lib.ListN.{length, drop, getD}
 use lib.IntN.{ℤ}
+use Rattle.whole.specs.Agree.{agree}
 use Rattle.frame.specs.Lines.{lines, lineEnd, ended}
 use Rattle.frame.specs.Frame.{numbers, decode}
 use Rattle.frame.specs.declared.Fields.{Fields}
@@ -11,10 +12,6 @@ use Rattle.frame.specs.Meaning.{meaning}
 use Rattle.frame.specs.Decoded.{meaning-tells}
 use Rattle.frame.specs.Answer.{plain, reported, told}
 use Rattle.frame.specs.Room.{Wrote}
-
--- two results equal to one definition
-pub agree : {A : Type 0} {x y z : A} → x ≡ z → y ≡ z → x ≡ y
-agree p q = p ∙ sym q
 
 -- two writes of the same bytes: the whole room and the next place
 pub wrote-agree : {l room room₁ room₂ : List ℕ} {at r₁ r₂ : ℕ} → Wrote l room at room₁ r₁ → Wrote l room at room₂ r₂ → (room₁ ≡ room₂) × (r₁ ≡ r₂)
