@@ -8,7 +8,8 @@ use lib.ListN.{length, take, drop, getD, set, replicate, length-append, length-s
 use Rattle.whole.specs.Size.{Small, small-zero}
 use lib.Seq.{sets, length-sets, sets-eq}
 use lib.IntN.{ℤ, pos, negsuc}
-use Rattle.frame.specs.Lines.{lines, ended, lineEnd}
+use Rattle.frame.specs.Lines.{lines, ended}
+use Rattle.frame.specs.Offsets.{lineEnd}
 use Rattle.frame.specs.LineLaws.{end-above, end-inside, line-cut, lines-done}
 use Rattle.frame.specs.Room.{sets-append}
 use Rattle.frame.specs.Frame.{Frame, decode, numbers, polygon}

@@ -5,7 +5,8 @@ use mathlib.Core.List.{List}
 use lib.ListN.{length, drop, getD}
 use lib.IntN.{ℤ}
 use Rattle.whole.specs.Agree.{agree}
-use Rattle.frame.specs.Lines.{lines, lineEnd, ended}
+use Rattle.frame.specs.Lines.{lines, ended}
+use Rattle.frame.specs.Offsets.{lineEnd}
 use Rattle.frame.specs.Frame.{numbers, decode}
 use Rattle.frame.specs.declared.Fields.{Fields}
 use Rattle.frame.specs.Meaning.{meaning}

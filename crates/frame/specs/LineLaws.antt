@@ -10,7 +10,8 @@ use lib.Dec.{eqb}
 use lib.ListN.{length, take, drop, getD, length-drop, drop-of-length-le}
 use lib.Seq.{drop-cons, drop-drop}
 use Rattle.whole.specs.All.{All, none, more}
-use Rattle.frame.specs.Lines.{onFirst, putByte, lines, ended, joined, firstLine, lineEnd}
+use Rattle.frame.specs.Lines.{onFirst, putByte, lines, ended, joined}
+use Rattle.frame.specs.Offsets.{firstLine, lineEnd}
 
 -- ---- the first line of a stream
 

@@ -1,3 +1,4 @@
+-- `checker::all` meets its contract.
 use Rattle.checker.specs.Loop.{running-idle, running-turn, running-end, room-left, valid-idle}
 use Rattle.checker.specs.Holds.{Running}
 use Rattle.checker.specs.declared.Desk.{Desk}
@@ -10,18 +11,6 @@ use Prim.Native.Nat.{_+_, _-_}
 use mathlib.Core.Path.{_≡_, refl, sym, ap, _∙_, subst}
 use Rattle.checker.proofs.all.Statement.{statement}
 use Rattle.checker.proofs.all.Tie as tie
-use Rattle.checker.proofs.all.Reads as reads
-use Rattle.checker.proofs.all.Lts as lts
-use Rattle.checker.proofs.fresh_bytes.Reads as fresh-bytes-reads
-use Rattle.checker.proofs.fresh_entries.Reads as fresh-entries-reads
-use Rattle.checker.proofs.fresh_parts.Reads as fresh-parts-reads
-use Rattle.checker.proofs.fresh_points.Reads as fresh-points-reads
-use Rattle.checker.proofs.fresh_stamps.Reads as fresh-stamps-reads
-use Rattle.checker.proofs.fresh_starts.Reads as fresh-starts-reads
-use Rattle.checker.proofs.fresh_table.Reads as fresh-table-reads
-use Rattle.checker.proofs.idle.Reads as idle-reads
-use Rattle.checker.proofs.one.Reads as one-reads
-use Rattle.frame.proofs.line_end.Reads as line-end-reads
 
 abbrev Inv-loop : tie.InvT-loop
 Inv-loop stream room₀ points₀ entries₀ starts₀ stamps₀ findings₀ parts₀ table₀ turned₀ d₀ from₀ room points entries starts stamps findings parts table turned d from =
@@ -31,53 +20,41 @@ abbrev μ-loop : tie.MeasureT-loop
 μ-loop stream room₀ points₀ entries₀ starts₀ stamps₀ findings₀ parts₀ table₀ turned₀ d₀ from₀ room points entries starts stamps findings parts table turned d from =
     length stream + 1 - from
 
--- src/lib.rt:161:22
 fresh-points-requires : tie.Need-fresh-points-requires Inv-loop μ-loop
 fresh-points-requires c κs = search needs
 
--- src/lib.rt:162:23
 fresh-entries-requires : tie.Need-fresh-entries-requires Inv-loop μ-loop
 fresh-entries-requires c κs = search needs
 
--- src/lib.rt:163:22
 fresh-starts-requires : tie.Need-fresh-starts-requires Inv-loop μ-loop
 fresh-starts-requires c κs = search needs
 
--- src/lib.rt:164:22
 fresh-stamps-requires : tie.Need-fresh-stamps-requires Inv-loop μ-loop
 fresh-stamps-requires c κs = search needs
 
--- src/lib.rt:165:24
 fresh-bytes-requires : tie.Need-fresh-bytes-requires Inv-loop μ-loop
 fresh-bytes-requires c κs = search needs
 
--- src/lib.rt:166:21
 fresh-parts-requires : tie.Need-fresh-parts-requires Inv-loop μ-loop
 fresh-parts-requires c κs = search needs
 
--- src/lib.rt:167:21
 fresh-table-requires : tie.Need-fresh-table-requires Inv-loop μ-loop
 fresh-table-requires c κs = search needs
 
--- src/lib.rt:168:22
 fresh-bytes-requires-2 : tie.Need-fresh-bytes-requires-2 Inv-loop μ-loop
 fresh-bytes-requires-2 c κs = search needs
 
--- src/lib.rt:169:9
 idle-requires : tie.Need-idle-requires Inv-loop μ-loop
 idle-requires c κs = search needs
 
--- src/lib.rt:171:5
 loop-holds : tie.Need-loop-holds Inv-loop μ-loop
 loop-holds c =
     running-idle (c .before .before .before .before .before .before .before .before .before .before .before .args .stream .now) (c .before .before .before .before .before .before .before .before .before .before .before .args .room .now) _ (c .idle .result) (c .idle .ensures) (valid-idle _ (c .before .before .before .before .before .before .before .before .fresh-points .ensures) (c .before .before .before .before .before .before .before .fresh-entries .ensures) (c .before .before .before .before .before .before .fresh-starts .ensures .0) (c .before .before .before .before .before .before .fresh-starts .ensures .1)
     (record { stamps = c .before .before .before .before .before .fresh-stamps .ensures; findings = c .before .before .before .before .fresh-bytes .ensures; parts = c .before .before .before .fresh-parts .ensures; table = c .before .before .fresh-table .ensures; turned = c .before .fresh-bytes2 .ensures })) (c .before .before .before .before .before .before .before .before .before .before .before .pre .1)
 
--- src/lib.rt:172:13
 line-end-requires : tie.Need-line-end-requires Inv-loop μ-loop
 line-end-requires c κs = search needs
 
--- src/lib.rt:174:13
 sub-one : tie.Need-sub-one Inv-loop μ-loop
 sub-one c =
     let l = c .before .before .loop in
@@ -86,7 +63,6 @@ sub-one c =
     let i = end-inside (c .before .before .before .before .before .before .before .before .before .before .before .before .before .before .args .stream .now) (l .from) (omega arith) in
     omega arith
 
--- src/lib.rt:174:13
 part-one-start : tie.Need-part-one-start Inv-loop μ-loop
 part-one-start c =
     let l = c .before .before .loop in
@@ -95,7 +71,6 @@ part-one-start c =
     let i = end-inside (c .before .before .before .before .before .before .before .before .before .before .before .before .before .before .args .stream .now) (l .from) (omega arith) in
     omega arith
 
--- src/lib.rt:174:13
 part-one-end : tie.Need-part-one-end Inv-loop μ-loop
 part-one-end c =
     let l = c .before .before .loop in
@@ -104,13 +79,11 @@ part-one-end c =
     let i = end-inside (c .before .before .before .before .before .before .before .before .before .before .before .before .before .before .args .stream .now) (l .from) (omega arith) in
     omega arith
 
--- src/lib.rt:173:9
 one-requires : tie.Need-one-requires Inv-loop μ-loop
 one-requires c κs =
     let l = c .before .before .before .before .before .before .before .before .before .before .before .before .loop in
     (room-left (c .before .before .before .before .before .before .before .before .before .before .before .before .before .before .before .before .before .before .before .before .before .before .before .before .args .stream .now) (c .before .before .before .before .before .before .before .before .before .before .before .before .before .before .before .before .before .before .before .before .before .before .before .before .args .room .now) (l .room) (arrays (l .points) (l .entries) (l .starts) (l .stamps) (l .findings) (l .parts) (l .table) (l .turned)) (l .d) (l .from) (l .inv) (c .before .before .before .before .before .before .before .before .before .before .before .loop-test .taken), l .inv .valid)
 
--- src/lib.rt:186:16
 add-from : tie.Need-add-from Inv-loop μ-loop
 add-from c =
     let l = c .before .before .before .before .before .before .before .before .before .before .before .before .before .before .before .loop in
@@ -119,7 +92,6 @@ add-from c =
     let i = end-inside (c .before .before .before .before .before .before .before .before .before .before .before .before .before .before .before .before .before .before .before .before .before .before .before .before .before .before .before .args .stream .now) (l .from) (omega arith) in
     omega (arith, c .before .before .before .before .before .before .before .before .before .before .before .before .before .before .before .before .before .before .before .before .before .before .before .before .before .before .before .pre .0)
 
--- src/lib.rt:171:5
 loop-less : tie.Need-loop-less Inv-loop μ-loop
 loop-less c =
     let l = c .before .before .before .before .before .before .before .before .before .before .before .before .before .before .before .loop in
@@ -128,17 +100,14 @@ loop-less c =
     let i = end-inside (c .before .before .before .before .before .before .before .before .before .before .before .before .before .before .before .before .before .before .before .before .before .before .before .before .before .before .before .args .stream .now) (l .from) (omega arith) in
     omega arith
 
--- src/lib.rt:171:5
 loop-again : tie.Need-loop-again Inv-loop μ-loop
 loop-again c =
     let l = c .before .before .before .before .before .before .before .before .before .before .before .before .before .before .before .loop in
     running-turn (c .before .before .before .before .before .before .before .before .before .before .before .before .before .before .before .before .before .before .before .before .before .before .before .before .before .before .before .args .stream .now) (c .before .before .before .before .before .before .before .before .before .before .before .before .before .before .before .before .before .before .before .before .before .before .before .before .before .before .before .args .room .now) (l .room) (arrays (l .points) (l .entries) (l .starts) (l .stamps) (l .findings) (l .parts) (l .table) (l .turned)) (l .d) (l .from) (l .inv) (c .before .before .before .before .before .before .before .before .before .before .before .before .before .before .loop-test .taken) (c .before .before .before .before .before .before .before .before .before .before .before .before .before .line-end .result) (c .before .before .before .before .before .before .before .before .before .before .before .before .before .line-end .ensures) _ _ _ (c .before .before .one .ensures)
 
--- src/lib.rt:157:1
 same-length : tie.Need-same-length Inv-loop μ-loop
 same-length c = search needs
 
--- src/lib.rt:157:1
 returns : tie.Need-returns Inv-loop μ-loop
 returns c =
     let l = c .before .loop in

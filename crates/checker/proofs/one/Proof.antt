@@ -1,3 +1,4 @@
+-- `checker::one` meets its contract.
 use mir.Syntax.{w64}
 use Rattle.checker.specs.Dids.{did-refused}
 use Rattle.checker.specs.Loop.{did-step}
@@ -17,43 +18,25 @@ use mathlib.Core.Path.{_≡_, refl, sym, ap, _∙_}
 use borrow.Author.Needs.{needs}
 use Rattle.checker.proofs.one.Statement.{statement}
 use Rattle.checker.proofs.one.Tie as tie
-use Rattle.checker.proofs.one.Reads as reads
-use Rattle.checker.proofs.one.Lts as lts
-use Rattle.checker.proofs.amend.ask.Reads as ask-reads
-use Rattle.checker.proofs.amend.move_point.Reads as move-point-reads
-use Rattle.checker.proofs.amend.turn_polygon.Reads as turn-polygon-reads
-use Rattle.checker.proofs.answer.refuse.Reads as refuse-reads
-use Rattle.checker.proofs.load.add_point.Reads as add-point-reads
-use Rattle.checker.proofs.load.add_polygon.Reads as add-polygon-reads
-use Rattle.checker.proofs.load.begin.Reads as begin-reads
-use Rattle.checker.proofs.load.end_load.Reads as end-load-reads
-use Rattle.frame.proofs.decode.Reads as decode-reads
 
--- src/lib.rt:67:9
 decode-requires : tie.Need-decode-requires
 decode-requires c κs = search needs
 
--- src/lib.rt:69:23
 enum-known-f : tie.Need-enum-known-f
 enum-known-f c = search needs
 
--- src/lib.rt:69:37
 begin-requires : tie.Need-begin-requires
 begin-requires c κs = search needs
 
--- src/lib.rt:70:23
 enum-known-f-2 : tie.Need-enum-known-f-2
 enum-known-f-2 c = search needs
 
--- src/lib.rt:70:35
 add-point-requires : tie.Need-add-point-requires
 add-point-requires c κs = search needs
 
--- src/lib.rt:71:25
 enum-known-f-3 : tie.Need-enum-known-f-3
 enum-known-f-3 c = search needs
 
--- src/lib.rt:71:31
 add-polygon-requires : tie.Need-add-polygon-requires
 add-polygon-requires c κs =
     let g = c .before .before .before .before .before .before .before .before .before .args in
@@ -61,63 +44,48 @@ add-polygon-requires c κs =
     let e : meaning (Polygon (c .before .before .before .before .f3 .given .0 .0)) (g .line .now) ≡ decode (g .line .now) = sym (ap (λ (q : Fields). meaning q (g .line .now)) (c .before .before .before .before .f3 .given .1)) ∙ c .before .before .before .before .before .before .decode .ensures in
     (c .before .before .before .before .before .before .before .before .before .pre .0, (record { count = polygon-count (g .line .now) _ e; few = polygon-few (g .line .now) _ e; listed = polygon-listed (g .line .now) _ e }, (v .loaded .entered .size, v .loaded .begins)))
 
--- src/lib.rt:73:13
 enum-told : tie.Need-enum-told
 enum-told c = search needs
 
--- src/lib.rt:72:30
 end-load-requires : tie.Need-end-load-requires
 end-load-requires c κs = search needs
 
--- src/lib.rt:75:22
 enum-known-f-4 : tie.Need-enum-known-f-4
 enum-known-f-4 c = search needs
 
--- src/lib.rt:76:21
 cast-n : tie.Need-cast-n
 cast-n c = search needs
 
--- src/lib.rt:77:13
 move-point-requires : tie.Need-move-point-requires
 move-point-requires c κs = search needs
 
--- src/lib.rt:81:22
 enum-known-f-5 : tie.Need-enum-known-f-5
 enum-known-f-5 c = search needs
 
--- src/lib.rt:82:21
 cast-n-2 : tie.Need-cast-n-2
 cast-n-2 c = search needs
 
--- src/lib.rt:83:13
 turn-polygon-requires : tie.Need-turn-polygon-requires
 turn-polygon-requires c κs = search needs
 
--- src/lib.rt:87:26
 enum-known-f-6 : tie.Need-enum-known-f-6
 enum-known-f-6 c = search needs
 
--- src/lib.rt:88:21
 cast-n-3 : tie.Need-cast-n-3
 cast-n-3 c = search needs
 
--- src/lib.rt:89:13
 ask-requires : tie.Need-ask-requires
 ask-requires c κs = search needs
 
--- src/lib.rt:91:42
 enum-told-2 : tie.Need-enum-told-2
 enum-told-2 c = search needs
 
--- src/lib.rt:91:27
 refuse-requires : tie.Need-refuse-requires
 refuse-requires c κs = search needs
 
--- src/lib.rt:51:1
 same-length : tie.Need-same-length
 same-length c = search needs
 
--- src/lib.rt:51:1
 returns : tie.Need-returns
 unfolding meaning
 returns c =
@@ -126,11 +94,9 @@ returns c =
     let w : Arrays = arrays (g .points .now) (g .entries .now) (g .starts .now) (g .stamps .now) (g .findings .now) (g .parts .now) (g .table .now) (g .turned .now) in
     did-step (service w (g .d)) (g .line .now) (begin (c .before .before .before .before .before .f .given .0 .0)) (g .room .now) _ (g .d .at) _ _ (sym (ap (λ (q : Fields). meaning q (g .line .now)) (c .before .before .before .before .before .f .given .1)) ∙ c .before .before .before .before .before .before .before .decode .ensures) (c .before .before .begin .ensures w v)
 
--- src/lib.rt:51:1
 same-length-2 : tie.Need-same-length-2
 same-length-2 c = search needs
 
--- src/lib.rt:51:1
 returns-2 : tie.Need-returns-2
 unfolding meaning
 returns-2 c =
@@ -141,11 +107,9 @@ returns-2 c =
     ((λ i. point (toZ-ofZ {w = w64} {z = c .before .before .before .before .before .before .f2 .given .0 .0} (record { sfits = c .before .before .before .before .before .known-told2 .given .0 .1 }) i) (toZ-ofZ {w = w64} {z = c .before .before .before .before .before .before .f2 .given .0 .1 .0} (record { sfits = c .before .before .before .before .before .known-told2 .given .1 .0 .1 }) i) (toZ-ofZ {w = w64} {z = c .before .before .before .before .before .before .f2 .given .0 .1 .1 .0} (record { sfits = c .before .before .before .before .before .known-told2 .given .1 .1 .0 .1 }) i)) ∙ sym (ap (λ (q : Fields). meaning q (g .line .now)) (c .before .before .before .before .before .before .f2 .given .1)) ∙ c .before .before .before .before .before .before .before .before .decode .ensures)
     (c .before .before .add-point .ensures w refl v)
 
--- src/lib.rt:51:1
 same-length-3 : tie.Need-same-length-3
 same-length-3 c = search needs
 
--- src/lib.rt:51:1
 returns-3 : tie.Need-returns-3
 returns-3 c =
     let g = c .before .before .before .before .before .before .before .before .before .before .before .before .args in
@@ -154,11 +118,9 @@ returns-3 c =
     let e : meaning (Polygon (c .before .before .before .before .before .before .before .f3 .given .0 .0)) (g .line .now) ≡ decode (g .line .now) = sym (ap (λ (q : Fields). meaning q (g .line .now)) (c .before .before .before .before .before .before .before .f3 .given .1)) ∙ c .before .before .before .before .before .before .before .before .before .decode .ensures in
     did-step (service w (g .d)) (g .line .now) (polygon (numbers (drop 2 (g .line .now)))) (g .room .now) _ (g .d .at) _ _ (sym (polygon-ring (g .line .now) _ e)) (c .before .before .add-polygon .ensures w refl refl v)
 
--- src/lib.rt:51:1
 same-length-4 : tie.Need-same-length-4
 same-length-4 c = search needs
 
--- src/lib.rt:51:1
 returns-4 : tie.Need-returns-4
 unfolding meaning
 returns-4 c =
@@ -167,11 +129,9 @@ returns-4 c =
     let w : Arrays = arrays (g .points .now) (g .entries .now) (g .starts .now) (g .stamps .now) (g .findings .now) (g .parts .now) (g .table .now) (g .turned .now) in
     did-step (service w (g .d)) (g .line .now) end-of-load (g .room .now) _ (g .d .at) _ _ (sym (ap (λ (q : Fields). meaning q (g .line .now)) (c .before .before .before .before .before .before .before .before .before .before .before .before .enum-told .given .1)) ∙ c .before .before .before .before .before .before .before .before .before .before .before .before .before .before .decode .ensures) (c .before .before .end-load .ensures)
 
--- src/lib.rt:51:1
 same-length-5 : tie.Need-same-length-5
 same-length-5 c = search needs
 
--- src/lib.rt:51:1
 returns-5 : tie.Need-returns-5
 unfolding meaning
 returns-5 c =
@@ -182,11 +142,9 @@ returns-5 c =
     ((λ i. move (c .before .before .before .before .before .before .before .before .before .before .before .before .before .f4 .given .0 .0) (c .before .before .before .before .before .before .before .before .before .before .before .before .before .f4 .given .0 .1 .0) (toZ-ofZ {w = w64} {z = c .before .before .before .before .before .before .before .before .before .before .before .before .before .f4 .given .0 .1 .1 .0} (record { sfits = c .before .before .before .before .before .before .before .before .before .before .before .before .known-told4 .given .1 .1 .0 .1 }) i) (toZ-ofZ {w = w64} {z = c .before .before .before .before .before .before .before .before .before .before .before .before .before .f4 .given .0 .1 .1 .1 .0} (record { sfits = c .before .before .before .before .before .before .before .before .before .before .before .before .known-told4 .given .1 .1 .1 .0 .1 }) i) (toZ-ofZ {w = w64} {z = c .before .before .before .before .before .before .before .before .before .before .before .before .before .f4 .given .0 .1 .1 .1 .1 .0} (record { sfits = c .before .before .before .before .before .before .before .before .before .before .before .before .known-told4 .given .1 .1 .1 .1 .0 .1 }) i)) ∙ sym (ap (λ (q : Fields). meaning q (g .line .now)) (c .before .before .before .before .before .before .before .before .before .before .before .before .before .f4 .given .1)) ∙ c .before .before .before .before .before .before .before .before .before .before .before .before .before .before .before .decode .ensures)
     (c .before .before .move-point .ensures)
 
--- src/lib.rt:51:1
 same-length-6 : tie.Need-same-length-6
 same-length-6 c = search needs
 
--- src/lib.rt:51:1
 returns-6 : tie.Need-returns-6
 unfolding meaning
 returns-6 c =
@@ -195,11 +153,9 @@ returns-6 c =
     let w : Arrays = arrays (g .points .now) (g .entries .now) (g .starts .now) (g .stamps .now) (g .findings .now) (g .parts .now) (g .table .now) (g .turned .now) in
     did-step (service w (g .d)) (g .line .now) _ (g .room .now) _ (g .d .at) _ _ (sym (ap (λ (q : Fields). meaning q (g .line .now)) (c .before .before .before .before .before .before .before .before .before .before .before .before .before .f5 .given .1)) ∙ c .before .before .before .before .before .before .before .before .before .before .before .before .before .before .before .decode .ensures) (c .before .before .turn-polygon .ensures)
 
--- src/lib.rt:51:1
 same-length-7 : tie.Need-same-length-7
 same-length-7 c = search needs
 
--- src/lib.rt:51:1
 returns-7 : tie.Need-returns-7
 unfolding meaning
 returns-7 c =
@@ -208,11 +164,9 @@ returns-7 c =
     let w : Arrays = arrays (g .points .now) (g .entries .now) (g .starts .now) (g .stamps .now) (g .findings .now) (g .parts .now) (g .table .now) (g .turned .now) in
     did-step (service w (g .d)) (g .line .now) _ (g .room .now) _ (g .d .at) _ _ (sym (ap (λ (q : Fields). meaning q (g .line .now)) (c .before .before .before .before .before .before .before .before .f6 .given .1)) ∙ c .before .before .before .before .before .before .before .before .before .before .decode .ensures) (c .before .before .ask .ensures w refl refl refl v)
 
--- src/lib.rt:51:1
 same-length-8 : tie.Need-same-length-8
 same-length-8 c = search needs
 
--- src/lib.rt:51:1
 returns-8 : tie.Need-returns-8
 unfolding meaning isAccepted
 returns-8 c =

@@ -3,7 +3,7 @@ use Prim.Native.Nat.{_-_}
 use mathlib.Core.Path.{_≡_, refl, sym, _∙_}
 use borrow.Author.Needs.{needs}
 use lib.ListN.{length}
-use Rattle.frame.specs.Lines.{lineEnd}
+use Rattle.frame.specs.Offsets.{lineEnd}
 use Rattle.frame.specs.LineLaws.{end-feed, end-byte, end-past}
 use Rattle.frame.proofs.line_end.Statement.{statement}
 use Rattle.frame.proofs.line_end.Tie as tie

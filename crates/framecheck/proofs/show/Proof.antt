@@ -1,25 +1,19 @@
+-- `framecheck::show` meets its contract.
 use lib.Seq.{length-take-le}
 use mathlib.Core.Path.{sym}
 use borrow.Author.Needs.{needs}
 use Rattle.framecheck.proofs.show.Statement.{statement}
 use Rattle.framecheck.proofs.show.Tie as tie
-use Rattle.framecheck.proofs.show.Reads as reads
-use Rattle.framecheck.proofs.show.Lts as lts
-use Rattle.io.proofs.write_all.Reads as write-all-reads
 
--- src/main.rt:6:44
 slice-aggregate-write-all : tie.Need-slice-aggregate-write-all
 slice-aggregate-write-all c = sym (length-take-le _ _ (c .before .if1 .taken))
 
--- src/main.rt:6:9
 write-all-requires : tie.Need-write-all-requires
 write-all-requires c κs = search needs
 
--- src/main.rt:4:1
 returns : tie.Need-returns
 returns c = search needs
 
--- src/main.rt:4:1
 returns-2 : tie.Need-returns-2
 returns-2 c = search needs
 

@@ -1,39 +1,29 @@
+-- `framecheck::tell` meets its contract.
 use mir.Facts.{fits-natAbs}
 use mir.Syntax.{w64}
 use Rattle.frame.specs.Signed.{seen, bits-pos}
 use borrow.Author.Needs.{needs}
 use Rattle.framecheck.proofs.tell.Statement.{statement}
 use Rattle.framecheck.proofs.tell.Tie as tie
-use Rattle.framecheck.proofs.tell.Reads as reads
-use Rattle.framecheck.proofs.tell.Lts as lts
-use Rattle.framecheck.proofs.refused.Reads as refused-reads
-use Rattle.framecheck.proofs.show.Reads as show-reads
 
--- src/main.rt:17:17
 slice-aggregate-refused : tie.Need-slice-aggregate-refused
 slice-aggregate-refused c = search needs
 
--- src/main.rt:17:9
 refused-requires : tie.Need-refused-requires
 refused-requires c κs = search needs
 
--- src/main.rt:19:17
 slice-aggregate-refused-2 : tie.Need-slice-aggregate-refused-2
 slice-aggregate-refused-2 c = search needs
 
--- src/main.rt:19:9
 refused-requires-2 : tie.Need-refused-requires-2
 refused-requires-2 c κs = search needs
 
--- src/main.rt:21:17
 slice-aggregate-refused-3 : tie.Need-slice-aggregate-refused-3
 slice-aggregate-refused-3 c = search needs
 
--- src/main.rt:21:9
 refused-requires-3 : tie.Need-refused-requires-3
 refused-requires-3 c κs = search needs
 
--- src/main.rt:23:20
 cast-show : tie.Need-cast-show
 cast-show c =
     let z = c .before .before .before .before .args .r in
@@ -41,23 +31,18 @@ cast-show c =
     let h = bits-pos z (rw (seen z f) at (c .if3 .left)) in
     rw (seen z f) (h .0, fits-natAbs {w = w64} {w′ = w64} tt f)
 
--- src/main.rt:23:9
 show-requires : tie.Need-show-requires
 show-requires c κs = search needs
 
--- src/main.rt:15:1
 returns : tie.Need-returns
 returns c = search needs
 
--- src/main.rt:15:1
 returns-2 : tie.Need-returns-2
 returns-2 c = search needs
 
--- src/main.rt:15:1
 returns-3 : tie.Need-returns-3
 returns-3 c = search needs
 
--- src/main.rt:15:1
 returns-4 : tie.Need-returns-4
 returns-4 c = search needs
 

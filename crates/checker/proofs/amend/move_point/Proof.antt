@@ -1,3 +1,4 @@
+-- `checker::amend::move_point` meets its contract.
 use Rattle.checker.specs.Holds.{service}
 use Rattle.checker.specs.Service.{refusal}
 use Rattle.building.specs.Holds.{Arrays, arrays}
@@ -15,23 +16,13 @@ use mathlib.Core.Path.{_≡_, refl, sym, ap, _∙_}
 use borrow.Author.Needs.{needs}
 use Rattle.checker.proofs.amend.move_point.Statement.{statement}
 use Rattle.checker.proofs.amend.move_point.Tie as tie
-use Rattle.checker.proofs.amend.move_point.Reads as reads
-use Rattle.checker.proofs.amend.move_point.Lts as lts
-use Rattle.building.proofs.move_point.Reads as move-point-reads
-use Rattle.checker.proofs.answer.is_accepted.Reads as is-accepted-reads
-use Rattle.checker.proofs.answer.put_report.Reads as put-report-reads
-use Rattle.checker.proofs.answer.refuse.Reads as refuse-reads
-use Rattle.checker.proofs.refusals.of_move.Reads as of-move-reads
 
--- src/amend.rt:37:9
 of-move-requires : tie.Need-of-move-requires
 of-move-requires c κs = search needs
 
--- src/amend.rt:38:8
 is-accepted-requires : tie.Need-is-accepted-requires
 is-accepted-requires c κs = search needs
 
--- src/amend.rt:41:13
 move-point-requires : tie.Need-move-point-requires
 move-point-requires c κs =
     let g = c .before .before .before .before .before .before .before .before .before .before .args in
@@ -42,15 +33,12 @@ move-point-requires c κs =
       (move-known w (g .d) v (g .number) (g .p) (g .x) (g .y) (g .z) (c .before .before .before .before .before .before .before .of-move .result) (c .before .before .before .before .before .before .before .of-move .ensures .is w refl v ∙ seen (λ (q : Point). refusal (service w (g .d)) (move (g .number) (g .p) (q .x) (q .y) (q .z))) (toZ-ofZ (c .before .before .before .before .before .before .before .before .before .before .fits .x)) (toZ-ofZ (c .before .before .before .before .before .before .before .before .before .before .fits .y)) (toZ-ofZ (c .before .before .before .before .before .before .before .before .before .before .fits .z))) t, seen isFar (toZ-ofZ (c .before .before .before .before .before .before .before .before .before .before .fits .x)) (toZ-ofZ (c .before .before .before .before .before .before .before .before .before .before .fits .y)) (toZ-ofZ (c .before .before .before .before .before .before .before .before .before .before .fits .z)) ∙ move-near w (g .d) v (g .number) (g .p) (g .x) (g .y) (g .z) (c .before .before .before .before .before .before .before .of-move .result) (c .before .before .before .before .before .before .before .of-move .ensures .is w refl v ∙ seen (λ (q : Point). refusal (service w (g .d)) (move (g .number) (g .p) (q .x) (q .y) (q .z))) (toZ-ofZ (c .before .before .before .before .before .before .before .before .before .before .fits .x)) (toZ-ofZ (c .before .before .before .before .before .before .before .before .before .before .fits .y)) (toZ-ofZ (c .before .before .before .before .before .before .before .before .before .before .fits .z))) t),
     )
 
--- src/amend.rt:44:13
 put-report-requires : tie.Need-put-report-requires
 put-report-requires c κs = search needs
 
--- src/amend.rt:47:9
 same-length : tie.Need-same-length
 same-length c = search needs
 
--- src/amend.rt:47:9
 returns : tie.Need-returns
 returns c =
     let g = c .before .before .before .before .before .before .before .before .before .before .before .before .before .before .before .before .before .before .args in
@@ -58,15 +46,12 @@ returns c =
     let w : Arrays = arrays (g .points .now) (g .entries .now) (g .starts .now) (g .stamps .now) (g .findings .now) (g .parts .now) (g .table .now) (g .turned .now) in
     did-move w (g .d) v (g .number) (g .p) (g .x) (g .y) (g .z) (c .before .before .before .before .before .before .before .before .before .before .before .before .before .before .before .of-move .result) (c .before .before .before .before .before .before .before .before .before .before .before .before .before .before .before .of-move .ensures .is w refl v ∙ seen (λ (q : Point). refusal (service w (g .d)) (move (g .number) (g .p) (q .x) (q .y) (q .z))) (toZ-ofZ (c .before .before .before .before .before .before .before .before .before .before .before .before .before .before .before .before .before .before .fits .x)) (toZ-ofZ (c .before .before .before .before .before .before .before .before .before .before .before .before .before .before .before .before .before .before .fits .y)) (toZ-ofZ (c .before .before .before .before .before .before .before .before .before .before .before .before .before .before .before .before .before .before .fits .z))) (sym (c .before .before .before .before .before .before .before .before .before .before .before .before .before .before .is-accepted .ensures) ∙ c .before .before .before .before .before .before .before .before .before .before .before .before .before .if1 .taken) _ (seen (λ (q : Point). q) (toZ-ofZ (c .before .before .before .before .before .before .before .before .before .before .before .before .before .before .before .before .before .before .fits .x)) (toZ-ofZ (c .before .before .before .before .before .before .before .before .before .before .before .before .before .before .before .before .before .before .fits .y)) (toZ-ofZ (c .before .before .before .before .before .before .before .before .before .before .before .before .before .before .before .before .before .before .fits .z))) _ _ (c .before .before .before .before .before .before .before .move-point .ensures) (g .room .now) _ _ (c .before .before .put-report .ensures)
 
--- src/amend.rt:53:5
 refuse-requires : tie.Need-refuse-requires
 refuse-requires c κs = search needs
 
--- src/amend.rt:17:1
 same-length-2 : tie.Need-same-length-2
 same-length-2 c = search needs
 
--- src/amend.rt:17:1
 returns-2 : tie.Need-returns-2
 returns-2 c =
     let g = c .before .before .before .before .before .before .before .before .before .args in

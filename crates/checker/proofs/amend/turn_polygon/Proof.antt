@@ -1,3 +1,4 @@
+-- `checker::amend::turn_polygon` meets its contract.
 use Rattle.checker.specs.Dids.{valid-held, turn-holds, turn-known, did-turn, did-refused}
 use Rattle.checker.specs.Holds.{service}
 use Rattle.checker.specs.Service.{refusal}
@@ -9,23 +10,13 @@ use mathlib.Core.Path.{_≡_, refl, sym, ap, _∙_}
 use borrow.Author.Needs.{needs}
 use Rattle.checker.proofs.amend.turn_polygon.Statement.{statement}
 use Rattle.checker.proofs.amend.turn_polygon.Tie as tie
-use Rattle.checker.proofs.amend.turn_polygon.Reads as reads
-use Rattle.checker.proofs.amend.turn_polygon.Lts as lts
-use Rattle.building.proofs.turn_polygon.Reads as turn-polygon-reads
-use Rattle.checker.proofs.answer.is_accepted.Reads as is-accepted-reads
-use Rattle.checker.proofs.answer.put_report.Reads as put-report-reads
-use Rattle.checker.proofs.answer.refuse.Reads as refuse-reads
-use Rattle.checker.proofs.refusals.of_turn.Reads as of-turn-reads
 
--- src/amend.rt:74:9
 of-turn-requires : tie.Need-of-turn-requires
 of-turn-requires c κs = search needs
 
--- src/amend.rt:75:8
 is-accepted-requires : tie.Need-is-accepted-requires
 is-accepted-requires c κs = search needs
 
--- src/amend.rt:78:13
 turn-polygon-requires : tie.Need-turn-polygon-requires
 turn-polygon-requires c κs =
     let g = c .before .before .before .before .before .before .before .before .before .args in
@@ -36,15 +27,12 @@ turn-polygon-requires c κs =
     let q : r ≡ refusal (service w (g .d)) (turn (g .number) (g .p)) = c .before .before .before .before .before .before .before .of-turn .ensures .is w tt v in
     (valid-held w (g .d) v (turn-holds w (g .d) v (g .number) (g .p) r q t), turn-known w (g .d) v (g .number) (g .p) r q t)
 
--- src/amend.rt:81:13
 put-report-requires : tie.Need-put-report-requires
 put-report-requires c κs = search needs
 
--- src/amend.rt:84:9
 same-length : tie.Need-same-length
 same-length c = search needs
 
--- src/amend.rt:84:9
 returns : tie.Need-returns
 returns c =
     let g = c .before .before .before .before .before .before .before .before .before .before .before .before .before .before .before .before .before .args in
@@ -52,15 +40,12 @@ returns c =
     let w : Arrays = arrays (g .points .now) (g .entries .now) (g .starts .now) (g .stamps .now) (g .findings .now) (g .parts .now) (g .table .now) (g .turned .now) in
     did-turn w (g .d) v (g .number) (g .p) (c .before .before .before .before .before .before .before .before .before .before .before .before .before .before .before .of-turn .result) (c .before .before .before .before .before .before .before .before .before .before .before .before .before .before .before .of-turn .ensures .is w tt v) (sym (c .before .before .before .before .before .before .before .before .before .before .before .before .before .before .is-accepted .ensures) ∙ c .before .before .before .before .before .before .before .before .before .before .before .before .before .if1 .taken) _ _ (c .before .before .before .before .before .before .before .turn-polygon .ensures) (g .room .now) _ _ (c .before .before .put-report .ensures)
 
--- src/amend.rt:90:5
 refuse-requires : tie.Need-refuse-requires
 refuse-requires c κs = search needs
 
--- src/amend.rt:57:1
 same-length-2 : tie.Need-same-length-2
 same-length-2 c = search needs
 
--- src/amend.rt:57:1
 returns-2 : tie.Need-returns-2
 returns-2 c =
     let g = c .before .before .before .before .before .before .before .before .args in

@@ -1,3 +1,4 @@
+-- `checker::answer::put_report` meets its contract.
 use Rattle.checker.specs.Dids.{wrote-report}
 use Rattle.building.specs.Told.{kept-faults, kept-volume, kept-summable}
 use Rattle.building.specs.Holds.{heldTables}
@@ -7,49 +8,31 @@ use mathlib.Core.Path.{_≡_, refl, sym, ap, _∙_}
 use borrow.Author.Needs.{needs}
 use Rattle.checker.proofs.answer.put_report.Statement.{statement}
 use Rattle.checker.proofs.answer.put_report.Tie as tie
-use Rattle.checker.proofs.answer.put_report.Reads as reads
-use Rattle.checker.proofs.answer.put_report.Lts as lts
-use Rattle.building.proofs.check_number.Reads as check-number-reads
-use Rattle.building.proofs.element_a.Reads as element-a-reads
-use Rattle.building.proofs.element_b.Reads as element-b-reads
-use Rattle.building.proofs.faults_of.Reads as faults-of-reads
-use Rattle.building.proofs.six_volume.Reads as six-volume-reads
-use Rattle.building.proofs.verdict_of.Reads as verdict-of-reads
-use Rattle.frame.proofs.put_report.Reads as put-report-reads
 
--- src/answer.rt:74:9
 verdict-of-requires : tie.Need-verdict-of-requires
 verdict-of-requires c κs = search needs
 
--- src/answer.rt:75:9
 check-number-requires : tie.Need-check-number-requires
 check-number-requires c κs = search needs
 
--- src/answer.rt:76:9
 element-a-requires : tie.Need-element-a-requires
 element-a-requires c κs = search needs
 
--- src/answer.rt:77:9
 element-b-requires : tie.Need-element-b-requires
 element-b-requires c κs = search needs
 
--- src/answer.rt:78:9
 faults-of-requires : tie.Need-faults-of-requires
 faults-of-requires c κs = search needs
 
--- src/answer.rt:79:9
 six-volume-requires : tie.Need-six-volume-requires
 six-volume-requires c κs = kept-summable (c .before .before .before .before .before .before .pre .1 .0) (c .before .before .before .before .before .before .pre .1 .1 .summed)
 
--- src/answer.rt:80:5
 put-report-requires : tie.Need-put-report-requires
 put-report-requires c κs = search needs
 
--- src/answer.rt:57:1
 same-length : tie.Need-same-length
 same-length c = search needs
 
--- src/answer.rt:57:1
 returns : tie.Need-returns
 returns c =
     let a = c .before .before .before .before .before .before .before .before .before .before .before .args in

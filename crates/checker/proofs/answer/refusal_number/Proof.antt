@@ -1,78 +1,61 @@
+-- `checker::answer::refusal_number` meets its contract.
 use Rattle.checker.specs.Service.{refusalNumber}
 use borrow.Author.Needs.{needs}
 use Rattle.checker.proofs.answer.refusal_number.Statement.{statement}
 use Rattle.checker.proofs.answer.refusal_number.Tie as tie
-use Rattle.checker.proofs.answer.refusal_number.Reads as reads
-use Rattle.checker.proofs.answer.refusal_number.Lts as lts
 
--- src/answer.rt:32:30
 enum-told : tie.Need-enum-told
 enum-told c = search needs
 
--- src/answer.rt:33:31
 enum-told-2 : tie.Need-enum-told-2
 enum-told-2 c = search needs
 
--- src/answer.rt:34:31
 enum-told-3 : tie.Need-enum-told-3
 enum-told-3 c = search needs
 
--- src/answer.rt:35:28
 enum-told-4 : tie.Need-enum-told-4
 enum-told-4 c = search needs
 
--- src/answer.rt:36:26
 enum-told-5 : tie.Need-enum-told-5
 enum-told-5 c = search needs
 
--- src/answer.rt:37:28
 enum-told-6 : tie.Need-enum-told-6
 enum-told-6 c = search needs
 
--- src/answer.rt:38:27
 enum-told-7 : tie.Need-enum-told-7
 enum-told-7 c = search needs
 
--- src/answer.rt:39:26
 enum-told-8 : tie.Need-enum-told-8
 enum-told-8 c = search needs
 
--- src/answer.rt:28:1
 returns : tie.Need-returns
 unfolding refusalNumber
 returns c = search needs
 
--- src/answer.rt:28:1
 returns-2 : tie.Need-returns-2
 unfolding refusalNumber
 returns-2 c = search needs
 
--- src/answer.rt:28:1
 returns-3 : tie.Need-returns-3
 unfolding refusalNumber
 returns-3 c = search needs
 
--- src/answer.rt:28:1
 returns-4 : tie.Need-returns-4
 unfolding refusalNumber
 returns-4 c = search needs
 
--- src/answer.rt:28:1
 returns-5 : tie.Need-returns-5
 unfolding refusalNumber
 returns-5 c = search needs
 
--- src/answer.rt:28:1
 returns-6 : tie.Need-returns-6
 unfolding refusalNumber
 returns-6 c = search needs
 
--- src/answer.rt:28:1
 returns-7 : tie.Need-returns-7
 unfolding refusalNumber
 returns-7 c = search needs
 
--- src/answer.rt:28:1
 returns-8 : tie.Need-returns-8
 unfolding refusalNumber
 returns-8 c = search needs

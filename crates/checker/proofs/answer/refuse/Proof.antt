@@ -1,3 +1,4 @@
+-- `checker::answer::refuse` meets its contract.
 use Rattle.checker.specs.Dids.{did-digits}
 use Rattle.frame.specs.Answer.{plain}
 use Rattle.frame.specs.Lines.{ended}
@@ -7,24 +8,16 @@ use Prim.Native.Nat.{ℕ}
 use borrow.Author.Needs.{needs}
 use Rattle.checker.proofs.answer.refuse.Statement.{statement}
 use Rattle.checker.proofs.answer.refuse.Tie as tie
-use Rattle.checker.proofs.answer.refuse.Reads as reads
-use Rattle.checker.proofs.answer.refuse.Lts as lts
-use Rattle.checker.proofs.answer.refusal_number.Reads as refusal-number-reads
-use Rattle.frame.proofs.put_plain.Reads as put-plain-reads
 
--- src/answer.rt:51:9
 refusal-number-requires : tie.Need-refusal-number-requires
 refusal-number-requires c κs = search needs
 
--- src/answer.rt:52:9
 put-plain-requires : tie.Need-put-plain-requires
 put-plain-requires c κs = search needs
 
--- src/answer.rt:44:1
 same-length : tie.Need-same-length
 same-length c = search needs
 
--- src/answer.rt:44:1
 returns : tie.Need-returns
 returns c = λ a v. did-digits a (c .before .before .before .before .before .before .before .args .d) v (c .before .before .before .before .before .before .before .args .r) (c .before .before .before .before .refusal-number .result) (c .before .before .before .before .refusal-number .ensures) (c .before .before .before .before .before .before .before .args .room .now) _ _ (c .before .before .put-plain .ensures)
 

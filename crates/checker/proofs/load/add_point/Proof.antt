@@ -1,3 +1,4 @@
+-- `checker::load::add_point` meets its contract.
 use Rattle.checker.specs.Holds.{does}
 use Rattle.checker.specs.Dids.{did-points}
 use Rattle.checker.specs.Holds.{service}
@@ -19,39 +20,25 @@ use mathlib.Core.Path.{_≡_, refl, sym, ap, _∙_}
 use borrow.Author.Needs.{needs}
 use Rattle.checker.proofs.load.add_point.Statement.{statement}
 use Rattle.checker.proofs.load.add_point.Tie as tie
-use Rattle.checker.proofs.load.add_point.Reads as reads
-use Rattle.checker.proofs.load.add_point.Lts as lts
-use Rattle.building.proofs.place.Reads as place-reads
-use Rattle.checker.proofs.answer.is_accepted.Reads as is-accepted-reads
-use Rattle.checker.proofs.answer.refuse.Reads as refuse-reads
-use Rattle.checker.proofs.refusals.of_point.Reads as of-point-reads
-use Rattle.frame.proofs.put_plain.Reads as put-plain-reads
 
--- src/load.rt:51:9
 of-point-requires : tie.Need-of-point-requires
 of-point-requires c κs = search needs
 
--- src/load.rt:52:8
 is-accepted-requires : tie.Need-is-accepted-requires
 is-accepted-requires c κs = search needs
 
--- src/load.rt:55:9
 place-requires : tie.Need-place-requires
 place-requires c κs = (c .before .before .before .before .before .before .before .pre .1 .0, c .before .before .before .before .of-point .ensures .fit (sym (c .before .before .before .is-accepted .ensures) ∙ c .before .before .if1 .taken))
 
--- src/load.rt:57:13
 put-plain-requires : tie.Need-put-plain-requires
 put-plain-requires c κs = search needs
 
--- src/load.rt:60:21
 add-t19 : tie.Need-add-t19
 add-t19 c = search needs
 
--- src/load.rt:66:9
 same-length : tie.Need-same-length
 same-length c = search needs
 
--- src/load.rt:66:9
 returns : tie.Need-returns
 returns c =
     λ a s v.
@@ -61,15 +48,12 @@ returns c =
     (c .before .before .before .before .place .ensures ∙ seen (λ (q : Point). placed (c .before .before .before .before .before .before .before .before .before .before .before .before .args .points .now) (c .before .before .before .before .before .before .before .before .before .before .before .before .args .d .held .points) q) (toZ-ofZ (c .before .before .before .before .before .before .before .before .before .before .before .before .fits .x)) (toZ-ofZ (c .before .before .before .before .before .before .before .before .before .before .before .before .fits .y)) (toZ-ofZ (c .before .before .before .before .before .before .before .before .before .before .before .before .fits .z)) ∙ ap (λ (q : List ℤ). placed q (g .d .held .points) (point3 (g .x) (g .y) (g .z))) (sym s))
     (g .room .now) _ _ (c .before .before .put-plain .ensures)
 
--- src/load.rt:72:5
 refuse-requires : tie.Need-refuse-requires
 refuse-requires c κs = search needs
 
--- src/load.rt:47:1
 same-length-2 : tie.Need-same-length-2
 same-length-2 c = search needs
 
--- src/load.rt:47:1
 returns-2 : tie.Need-returns-2
 returns-2 c =
     λ a s v.

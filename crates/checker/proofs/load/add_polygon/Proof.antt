@@ -1,3 +1,4 @@
+-- `checker::load::add_polygon` meets its contract.
 use Rattle.checker.specs.Holds.{service, does}
 use Rattle.checker.specs.Dids.{did-rings}
 use Rattle.checker.specs.Dids.{did-polygon, did-refused}
@@ -13,66 +14,46 @@ use mathlib.Core.Path.{_≡_, refl, sym, ap, _∙_, subst}
 use borrow.Author.Needs.{needs}
 use Rattle.checker.proofs.load.add_polygon.Statement.{statement}
 use Rattle.checker.proofs.load.add_polygon.Tie as tie
-use Rattle.checker.proofs.load.add_polygon.Reads as reads
-use Rattle.checker.proofs.load.add_polygon.Lts as lts
-use Rattle.building.proofs.close_ring.Reads as close-ring-reads
-use Rattle.checker.proofs.answer.is_accepted.Reads as is-accepted-reads
-use Rattle.checker.proofs.answer.refuse.Reads as refuse-reads
-use Rattle.checker.proofs.load.copy_ring.Reads as copy-ring-reads
-use Rattle.checker.proofs.refusals.of_polygon.Reads as of-polygon-reads
-use Rattle.frame.proofs.put_plain.Reads as put-plain-reads
 
--- src/load.rt:100:9
 of-polygon-requires : tie.Need-of-polygon-requires
 of-polygon-requires c κs = search needs
 
--- src/load.rt:101:8
 is-accepted-requires : tie.Need-is-accepted-requires
 is-accepted-requires c κs = search needs
 
--- src/load.rt:104:20
 mul-used : tie.Need-mul-used
 mul-used c = search needs
 
--- src/load.rt:104:20
 element-copy-out-used : tie.Need-element-copy-out-used
 element-copy-out-used c = search needs
 
--- src/load.rt:104:20
 cast-used : tie.Need-cast-used
 cast-used c = search needs
 
--- src/load.rt:105:9
 copy-ring-requires : tie.Need-copy-ring-requires
 copy-ring-requires c κs =
     let n = c .before .before .before .before .before .before .before .before .before .pre .1 .0 .count in
     let h = c .before .before .before .before .before .of-polygon .ensures .fit (sym (c .before .before .before .before .is-accepted .ensures) ∙ c .before .before .before .if1 .taken) in
     (c .before .before .before .before .before .before .before .before .before .pre .1 .0, (omega arith, c .before .before .before .before .before .before .before .before .before .pre .1 .1 .0))
 
--- src/load.rt:106:41
 add-close-ring : tie.Need-add-close-ring
 add-close-ring c = search needs
 
--- src/load.rt:106:9
 close-ring-requires : tie.Need-close-ring-requires
 close-ring-requires c κs =
     let n = c .before .before .before .before .before .before .before .before .before .before .before .pre .1 .0 .count in
     let h = c .before .before .before .before .before .before .before .of-polygon .ensures .fit (sym (c .before .before .before .before .before .before .is-accepted .ensures) ∙ c .before .before .before .before .before .if1 .taken) in
     (c .before .before .before .before .before .before .before .before .before .before .before .pre .1 .1 .1 .size, (h .0, omega arith))
 
--- src/load.rt:108:13
 put-plain-requires : tie.Need-put-plain-requires
 put-plain-requires c κs = search needs
 
--- src/load.rt:112:23
 add-t16 : tie.Need-add-t16
 add-t16 c = search needs
 
--- src/load.rt:117:9
 same-length : tie.Need-same-length
 same-length c = search needs
 
--- src/load.rt:117:9
 returns : tie.Need-returns
 returns c =
     λ a ee se v.
@@ -86,15 +67,12 @@ returns c =
     (c .before .before .before .before .close-ring .ensures ∙ (λ i. set (sym se i) (g .d .held .polygons + 1) (getD (sym se i) (g .d .held .polygons) 0 + k .count i)))
     (g .room .now) _ _ (c .before .before .put-plain .ensures)
 
--- src/load.rt:123:5
 refuse-requires : tie.Need-refuse-requires
 refuse-requires c κs = search needs
 
--- src/load.rt:89:1
 same-length-2 : tie.Need-same-length-2
 same-length-2 c = search needs
 
--- src/load.rt:89:1
 returns-2 : tie.Need-returns-2
 returns-2 c =
     λ a ee se v.

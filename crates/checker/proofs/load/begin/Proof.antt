@@ -1,33 +1,24 @@
+-- `checker::load::begin` meets its contract.
 use Rattle.checker.specs.Dids.{did-begin, did-begin-beyond}
 use borrow.Author.Needs.{needs}
 use Rattle.checker.proofs.load.begin.Statement.{statement}
 use Rattle.checker.proofs.load.begin.Tie as tie
-use Rattle.checker.proofs.load.begin.Reads as reads
-use Rattle.checker.proofs.load.begin.Lts as lts
-use Rattle.checker.proofs.answer.refuse.Reads as refuse-reads
-use Rattle.frame.proofs.put_plain.Reads as put-plain-reads
 
--- src/load.rt:27:9
 refuse-requires : tie.Need-refuse-requires
 refuse-requires c κs = search needs
 
--- src/load.rt:27:9
 same-length : tie.Need-same-length
 same-length c = search needs
 
--- src/load.rt:27:9
 returns : tie.Need-returns
 returns c = λ a v. did-begin-beyond a (c .before .before .before .before .before .before .args .d) v (c .before .before .before .before .before .before .args .tolerance) (c .before .before .before .before .if1 .taken) (c .before .before .before .before .before .before .args .room .now) _ _ (c .before .before .refuse .ensures a v)
 
--- src/load.rt:30:9
 put-plain-requires : tie.Need-put-plain-requires
 put-plain-requires c κs = search needs
 
--- src/load.rt:22:1
 same-length-2 : tie.Need-same-length-2
 same-length-2 c = search needs
 
--- src/load.rt:22:1
 returns-2 : tie.Need-returns-2
 returns-2 c = λ a v. did-begin a (c .before .before .before .before .before .before .args .d) v (c .before .before .before .before .before .before .args .tolerance) (c .before .before .before .before .if1 .left) (c .before .before .before .before .before .before .args .room .now) _ _ (c .before .before .put-plain .ensures)
 

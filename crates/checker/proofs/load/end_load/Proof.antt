@@ -1,3 +1,4 @@
+-- `checker::load::end_load` meets its contract.
 use Rattle.building.specs.Holds.{Arrays, arrays}
 use Rattle.checker.specs.Dids.{did-end, did-refused}
 use Rattle.frame.specs.Frame.{end-of-load}
@@ -5,35 +6,22 @@ use mathlib.Core.Path.{_≡_, refl, sym, ap, _∙_}
 use borrow.Author.Needs.{needs}
 use Rattle.checker.proofs.load.end_load.Statement.{statement}
 use Rattle.checker.proofs.load.end_load.Tie as tie
-use Rattle.checker.proofs.load.end_load.Reads as reads
-use Rattle.checker.proofs.load.end_load.Lts as lts
-use Rattle.building.proofs.check_all.Reads as check-all-reads
-use Rattle.checker.proofs.answer.is_accepted.Reads as is-accepted-reads
-use Rattle.checker.proofs.answer.put_report.Reads as put-report-reads
-use Rattle.checker.proofs.answer.refuse.Reads as refuse-reads
-use Rattle.checker.proofs.refusals.of_end.Reads as of-end-reads
 
--- src/load.rt:142:9
 of-end-requires : tie.Need-of-end-requires
 of-end-requires c κs = search needs
 
--- src/load.rt:143:8
 is-accepted-requires : tie.Need-is-accepted-requires
 is-accepted-requires c κs = search needs
 
--- src/load.rt:146:13
 check-all-requires : tie.Need-check-all-requires
 check-all-requires c κs = search needs
 
--- src/load.rt:157:13
 put-report-requires : tie.Need-put-report-requires
 put-report-requires c κs = search needs
 
--- src/load.rt:160:9
 same-length : tie.Need-same-length
 same-length c = search needs
 
--- src/load.rt:160:9
 returns : tie.Need-returns
 returns c =
     let g = c .before .before .before .before .before .before .before .before .before .before .before .before .before .before .before .before .before .before .before .args in
@@ -41,15 +29,12 @@ returns c =
     let w : Arrays = arrays (g .points .now) (g .entries .now) (g .starts .now) (g .stamps .now) (g .findings .now) (g .parts .now) (g .table .now) (g .turned .now) in
     did-end w (g .d) v (c .before .before .before .before .before .before .before .before .before .before .before .before .before .before .before .before .before .of-end .result) (c .before .before .before .before .before .before .before .before .before .before .before .before .before .before .before .before .before .of-end .ensures .is w tt v) (sym (c .before .before .before .before .before .before .before .before .before .before .before .before .before .before .before .before .is-accepted .ensures) ∙ c .before .before .before .before .before .before .before .before .before .before .before .before .before .before .before .if1 .taken) _ _ (c .before .before .before .before .before .before .before .before .check-all .ensures) (g .room .now) _ _ (c .before .before .put-report .ensures)
 
--- src/load.rt:166:5
 refuse-requires : tie.Need-refuse-requires
 refuse-requires c κs = search needs
 
--- src/load.rt:127:1
 same-length-2 : tie.Need-same-length-2
 same-length-2 c = search needs
 
--- src/load.rt:127:1
 returns-2 : tie.Need-returns-2
 returns-2 c =
     let g = c .before .before .before .before .before .before .before .before .args in

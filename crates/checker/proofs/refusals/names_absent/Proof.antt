@@ -1,3 +1,4 @@
+-- `checker::refusals::names_absent` meets its contract.
 use Rattle.whole.specs.Search.{any-here, any-next, any-end}
 use Rattle.whole.specs.Lists.{any}
 use borrow.Author.Needs.{needs}
@@ -10,9 +11,6 @@ use lib.ListN.{length, drop, getD}
 use mathlib.Core.Path.{_≡_, refl, sym, ap, _∙_}
 use Rattle.checker.proofs.refusals.names_absent.Statement.{statement}
 use Rattle.checker.proofs.refusals.names_absent.Tie as tie
-use Rattle.checker.proofs.refusals.names_absent.Reads as reads
-use Rattle.checker.proofs.refusals.names_absent.Lts as lts
-use Rattle.frame.proofs.entry.Reads as entry-reads
 
 abbrev Inv-loop : tie.InvT-loop
 Inv-loop line n points i₀ i = (i ≤ n) × (any (leb points) (drop i (numbers (drop 2 line))) ≡ any (leb points) (numbers (drop 2 line)))
@@ -20,19 +18,15 @@ Inv-loop line n points i₀ i = (i ≤ n) × (any (leb points) (drop i (numbers 
 abbrev μ-loop : tie.MeasureT-loop
 μ-loop line n points i₀ i = n - i
 
--- src/refusals.rt:65:5
 loop-holds : tie.Need-loop-holds Inv-loop μ-loop
 loop-holds c = (omega arith, refl)
 
--- src/refusals.rt:66:17
 entry-requires : tie.Need-entry-requires Inv-loop μ-loop
 entry-requires c κs = c .before .before .before .pre .listed (c .before .loop .i) (c .loop-test .taken)
 
--- src/refusals.rt:66:17
 cast-e : tie.Need-cast-e Inv-loop μ-loop
 cast-e c = search needs
 
--- src/refusals.rt:68:13
 returns : tie.Need-returns Inv-loop μ-loop
 returns c =
     let t = leb (c .before .before .before .before .before .args .points) in
@@ -40,15 +34,12 @@ returns c =
     let n = c .before .before .before .before .before .pre .count in
     sym (any-here t (numbers (drop 2 (c .before .before .before .before .before .args .line .now))) (c .before .before .before .loop .i) 0 (omega arith) (le-leb (c .before .before .before .before .before .args .points) (getD (numbers (drop 2 (c .before .before .before .before .before .args .line .now))) (c .before .before .before .loop .i) 0) (omega arith))) ∙ c .before .before .before .loop .inv .1
 
--- src/refusals.rt:70:9
 add-i : tie.Need-add-i Inv-loop μ-loop
 add-i c = search needs
 
--- src/refusals.rt:65:5
 loop-less : tie.Need-loop-less Inv-loop μ-loop
 loop-less c = search needs
 
--- src/refusals.rt:65:5
 loop-again : tie.Need-loop-again Inv-loop μ-loop
 loop-again c =
     let t = leb (c .before .before .before .before .before .args .points) in
@@ -56,7 +47,6 @@ loop-again c =
     let n = c .before .before .before .before .before .pre .count in
     (omega arith, sym (any-next t (numbers (drop 2 (c .before .before .before .before .before .args .line .now))) (c .before .before .before .loop .i) 0 (omega arith) (lt-leb (c .before .before .before .before .before .args .points) (getD (numbers (drop 2 (c .before .before .before .before .before .args .line .now))) (c .before .before .before .loop .i) 0) (omega arith))) ∙ c .before .before .before .loop .inv .1)
 
--- src/refusals.rt:60:1
 returns-2 : tie.Need-returns-2 Inv-loop μ-loop
 returns-2 c =
     let n = c .before .before .before .pre .count in

@@ -1,22 +1,17 @@
+-- `checker::refusals::of_end` meets its contract.
 use Rattle.checker.specs.Rows.{end-misplaced, end-accepted}
 use borrow.Author.Tests.{not-true, not-false}
 use mathlib.Core.Path.{_≡_, refl, sym, ap, _∙_}
 use borrow.Author.Needs.{needs}
 use Rattle.checker.proofs.refusals.of_end.Statement.{statement}
 use Rattle.checker.proofs.refusals.of_end.Tie as tie
-use Rattle.checker.proofs.refusals.of_end.Reads as reads
-use Rattle.checker.proofs.refusals.of_end.Lts as lts
-use Rattle.checker.proofs.refusals.is_loading.Reads as is-loading-reads
 
--- src/refusals.rt:105:9
 is-loading-requires : tie.Need-is-loading-requires
 is-loading-requires c κs = search needs
 
--- src/refusals.rt:106:9
 returns : tie.Need-returns
 returns c = end-misplaced (c .before .before .args .d) (sym (c .before .is-loading .ensures) ∙ not-true (c .before .is-loading .result) (c .if1 .taken))
 
--- src/refusals.rt:101:1
 returns-2 : tie.Need-returns-2
 returns-2 c = end-accepted (c .before .before .args .d) (sym (c .before .is-loading .ensures) ∙ not-false (c .before .is-loading .result) (c .if1 .left))
 

@@ -1,3 +1,4 @@
+-- `checker::refusals::of_move` meets its contract.
 use Rattle.checker.specs.Rows.{seen, move-misplaced, move-late, move-absent, move-beyond, move-taken, move-accepted}
 use lib.ListN.{take}
 use Rattle.polygon.specs.Held.{pointsOf}
@@ -9,45 +10,31 @@ use mathlib.Core.Path.{_≡_, refl, sym, ap, _∙_}
 use borrow.Author.Needs.{needs}
 use Rattle.checker.proofs.refusals.of_move.Statement.{statement}
 use Rattle.checker.proofs.refusals.of_move.Tie as tie
-use Rattle.checker.proofs.refusals.of_move.Reads as reads
-use Rattle.checker.proofs.refusals.of_move.Lts as lts
-use Rattle.building.proofs.is_far.Reads as is-far-reads
-use Rattle.building.proofs.stands_else.Reads as stands-else-reads
-use Rattle.checker.proofs.refusals.is_holding.Reads as is-holding-reads
 
--- src/refusals.rt:120:9
 is-holding-requires : tie.Need-is-holding-requires
 is-holding-requires c κs = search needs
 
--- src/refusals.rt:121:9
 returns : tie.Need-returns
 returns c = move-misplaced (c .before .before .before .args .points .now) (c .before .before .before .args .d) (c .before .before .before .args .number) (c .before .before .before .args .p) (c .before .before .before .args .x) (c .before .before .before .args .y) (c .before .before .before .args .z) (sym (c .before .is-holding .ensures) ∙ not-true (c .before .is-holding .result) (c .if1 .taken))
 
--- src/refusals.rt:124:9
 returns-2 : tie.Need-returns-2
 returns-2 c = move-late (c .before .before .before .before .args .points .now) (c .before .before .before .before .args .d) (c .before .before .before .before .args .number) (c .before .before .before .before .args .p) (c .before .before .before .before .args .x) (c .before .before .before .before .args .y) (c .before .before .before .before .args .z) (sym (c .before .before .is-holding .ensures) ∙ not-false (c .before .before .is-holding .result) (c .before .if1 .left)) (c .if2 .taken)
 
--- src/refusals.rt:127:9
 returns-3 : tie.Need-returns-3
 returns-3 c = move-absent (c .before .before .before .before .before .args .points .now) (c .before .before .before .before .before .args .d) (c .before .before .before .before .before .args .number) (c .before .before .before .before .before .args .p) (c .before .before .before .before .before .args .x) (c .before .before .before .before .before .args .y) (c .before .before .before .before .before .args .z) (sym (c .before .before .before .is-holding .ensures) ∙ not-false (c .before .before .before .is-holding .result) (c .before .before .if1 .left)) (c .before .if2 .left) (c .if3 .taken)
 
--- src/refusals.rt:129:8
 is-far-requires : tie.Need-is-far-requires
 is-far-requires c κs = search needs
 
--- src/refusals.rt:130:9
 returns-4 : tie.Need-returns-4
 returns-4 c = move-beyond (c .before .before .before .before .before .before .before .args .points .now) (c .before .before .before .before .before .before .before .args .d) (c .before .before .before .before .before .before .before .args .number) (c .before .before .before .before .before .before .before .args .p) (c .before .before .before .before .before .before .before .args .x) (c .before .before .before .before .before .before .before .args .y) (c .before .before .before .before .before .before .before .args .z) (sym (c .before .before .before .before .before .is-holding .ensures) ∙ not-false (c .before .before .before .before .before .is-holding .result) (c .before .before .before .before .if1 .left)) (c .before .before .before .if2 .left) (c .before .before .if3 .left) (sym (seen isFar (toZ-ofZ (c .before .before .before .before .before .before .before .fits .x)) (toZ-ofZ (c .before .before .before .before .before .before .before .fits .y)) (toZ-ofZ (c .before .before .before .before .before .before .before .fits .z))) ∙ sym (c .before .is-far .ensures) ∙ c .if4 .taken)
 
--- src/refusals.rt:132:8
 stands-else-requires : tie.Need-stands-else-requires
 stands-else-requires c κs = search needs
 
--- src/refusals.rt:133:9
 returns-5 : tie.Need-returns-5
 returns-5 c = move-taken (c .before .before .before .before .before .before .before .before .before .args .points .now) (c .before .before .before .before .before .before .before .before .before .args .d) (c .before .before .before .before .before .before .before .before .before .args .number) (c .before .before .before .before .before .before .before .before .before .args .p) (c .before .before .before .before .before .before .before .before .before .args .x) (c .before .before .before .before .before .before .before .before .before .args .y) (c .before .before .before .before .before .before .before .before .before .args .z) (sym (c .before .before .before .before .before .before .before .is-holding .ensures) ∙ not-false (c .before .before .before .before .before .before .before .is-holding .result) (c .before .before .before .before .before .before .if1 .left)) (c .before .before .before .before .before .if2 .left) (c .before .before .before .before .if3 .left) (sym (seen isFar (toZ-ofZ (c .before .before .before .before .before .before .before .before .before .fits .x)) (toZ-ofZ (c .before .before .before .before .before .before .before .before .before .fits .y)) (toZ-ofZ (c .before .before .before .before .before .before .before .before .before .fits .z))) ∙ sym (c .before .before .before .is-far .ensures) ∙ c .before .before .if4 .left) (sym (seen (λ (q : Point). standsElse (c .before .before .before .before .before .before .before .before .before .args .p) q (take (c .before .before .before .before .before .before .before .before .before .args .d .held .points) (pointsOf (c .before .before .before .before .before .before .before .before .before .args .points .now)))) (toZ-ofZ (c .before .before .before .before .before .before .before .before .before .fits .x)) (toZ-ofZ (c .before .before .before .before .before .before .before .before .before .fits .y)) (toZ-ofZ (c .before .before .before .before .before .before .before .before .before .fits .z))) ∙ sym (c .before .stands-else .ensures) ∙ c .if5 .taken)
 
--- src/refusals.rt:112:1
 returns-6 : tie.Need-returns-6
 returns-6 c = move-accepted (c .before .before .before .before .before .before .before .before .before .args .points .now) (c .before .before .before .before .before .before .before .before .before .args .d) (c .before .before .before .before .before .before .before .before .before .args .number) (c .before .before .before .before .before .before .before .before .before .args .p) (c .before .before .before .before .before .before .before .before .before .args .x) (c .before .before .before .before .before .before .before .before .before .args .y) (c .before .before .before .before .before .before .before .before .before .args .z) (sym (c .before .before .before .before .before .before .before .is-holding .ensures) ∙ not-false (c .before .before .before .before .before .before .before .is-holding .result) (c .before .before .before .before .before .before .if1 .left)) (c .before .before .before .before .before .if2 .left) (c .before .before .before .before .if3 .left) (sym (seen isFar (toZ-ofZ (c .before .before .before .before .before .before .before .before .before .fits .x)) (toZ-ofZ (c .before .before .before .before .before .before .before .before .before .fits .y)) (toZ-ofZ (c .before .before .before .before .before .before .before .before .before .fits .z))) ∙ sym (c .before .before .before .is-far .ensures) ∙ c .before .before .if4 .left) (sym (seen (λ (q : Point). standsElse (c .before .before .before .before .before .before .before .before .before .args .p) q (take (c .before .before .before .before .before .before .before .before .before .args .d .held .points) (pointsOf (c .before .before .before .before .before .before .before .before .before .args .points .now)))) (toZ-ofZ (c .before .before .before .before .before .before .before .before .before .fits .x)) (toZ-ofZ (c .before .before .before .before .before .before .before .before .before .fits .y)) (toZ-ofZ (c .before .before .before .before .before .before .before .before .before .fits .z))) ∙ sym (c .before .stands-else .ensures) ∙ c .if5 .left)
 

@@ -1,3 +1,4 @@
+-- `checker::refusals::of_point` meets its contract.
 use Rattle.checker.specs.Rows.{seen}
 use lib.ListN.{take}
 use Rattle.polygon.specs.Held.{pointsOf}
@@ -10,41 +11,28 @@ use mathlib.Core.Path.{_≡_, refl, sym, ap, _∙_}
 use borrow.Author.Needs.{needs}
 use Rattle.checker.proofs.refusals.of_point.Statement.{statement}
 use Rattle.checker.proofs.refusals.of_point.Tie as tie
-use Rattle.checker.proofs.refusals.of_point.Reads as reads
-use Rattle.checker.proofs.refusals.of_point.Lts as lts
-use Rattle.building.proofs.is_far.Reads as is-far-reads
-use Rattle.building.proofs.stands_else.Reads as stands-else-reads
-use Rattle.checker.proofs.refusals.is_loading.Reads as is-loading-reads
 
--- src/refusals.rt:44:9
 is-loading-requires : tie.Need-is-loading-requires
 is-loading-requires c κs = search needs
 
--- src/refusals.rt:45:9
 returns : tie.Need-returns
 returns c = point-misplaced (c .before .before .before .args .points .now) (c .before .before .before .args .d) (c .before .before .before .args .x) (c .before .before .before .args .y) (c .before .before .before .args .z) (sym (c .before .is-loading .ensures) ∙ not-true (c .before .is-loading .result) (c .if1 .taken))
 
--- src/refusals.rt:47:8
 is-far-requires : tie.Need-is-far-requires
 is-far-requires c κs = search needs
 
--- src/refusals.rt:48:9
 returns-2 : tie.Need-returns-2
 returns-2 c = point-beyond (c .before .before .before .before .before .args .points .now) (c .before .before .before .before .before .args .d) (c .before .before .before .before .before .args .x) (c .before .before .before .before .before .args .y) (c .before .before .before .before .before .args .z) (sym (c .before .before .before .is-loading .ensures) ∙ not-false (c .before .before .before .is-loading .result) (c .before .before .if1 .left)) (sym (seen isFar (toZ-ofZ (c .before .before .before .before .before .fits .x)) (toZ-ofZ (c .before .before .before .before .before .fits .y)) (toZ-ofZ (c .before .before .before .before .before .fits .z))) ∙ sym (c .before .is-far .ensures) ∙ c .if2 .taken)
 
--- src/refusals.rt:51:9
 returns-3 : tie.Need-returns-3
 returns-3 c = point-full (c .before .before .before .before .before .before .args .points .now) (c .before .before .before .before .before .before .args .d) (c .before .before .before .before .before .before .args .x) (c .before .before .before .before .before .before .args .y) (c .before .before .before .before .before .before .args .z) (sym (c .before .before .before .before .is-loading .ensures) ∙ not-false (c .before .before .before .before .is-loading .result) (c .before .before .before .if1 .left)) (sym (seen isFar (toZ-ofZ (c .before .before .before .before .before .before .fits .x)) (toZ-ofZ (c .before .before .before .before .before .before .fits .y)) (toZ-ofZ (c .before .before .before .before .before .before .fits .z))) ∙ sym (c .before .before .is-far .ensures) ∙ c .before .if2 .left) (c .if3 .taken)
 
--- src/refusals.rt:53:8
 stands-else-requires : tie.Need-stands-else-requires
 stands-else-requires c κs = search needs
 
--- src/refusals.rt:54:9
 returns-4 : tie.Need-returns-4
 returns-4 c = point-taken (c .before .before .before .before .before .before .before .before .args .points .now) (c .before .before .before .before .before .before .before .before .args .d) (c .before .before .before .before .before .before .before .before .args .x) (c .before .before .before .before .before .before .before .before .args .y) (c .before .before .before .before .before .before .before .before .args .z) (sym (c .before .before .before .before .before .before .is-loading .ensures) ∙ not-false (c .before .before .before .before .before .before .is-loading .result) (c .before .before .before .before .before .if1 .left)) (sym (seen isFar (toZ-ofZ (c .before .before .before .before .before .before .before .before .fits .x)) (toZ-ofZ (c .before .before .before .before .before .before .before .before .fits .y)) (toZ-ofZ (c .before .before .before .before .before .before .before .before .fits .z))) ∙ sym (c .before .before .before .before .is-far .ensures) ∙ c .before .before .before .if2 .left) (c .before .before .if3 .left) (sym (seen (λ (q : Point). standsElse (c .before .before .before .before .before .before .before .before .args .d .held .points) q (take (c .before .before .before .before .before .before .before .before .args .d .held .points) (pointsOf (c .before .before .before .before .before .before .before .before .args .points .now)))) (toZ-ofZ (c .before .before .before .before .before .before .before .before .fits .x)) (toZ-ofZ (c .before .before .before .before .before .before .before .before .fits .y)) (toZ-ofZ (c .before .before .before .before .before .before .before .before .fits .z))) ∙ sym (c .before .stands-else .ensures) ∙ c .if4 .taken)
 
--- src/refusals.rt:37:1
 returns-5 : tie.Need-returns-5
 returns-5 c = point-accepted (c .before .before .before .before .before .before .before .before .args .points .now) (c .before .before .before .before .before .before .before .before .args .d) (c .before .before .before .before .before .before .before .before .args .x) (c .before .before .before .before .before .before .before .before .args .y) (c .before .before .before .before .before .before .before .before .args .z) (sym (c .before .before .before .before .before .before .is-loading .ensures) ∙ not-false (c .before .before .before .before .before .before .is-loading .result) (c .before .before .before .before .before .if1 .left)) (sym (seen isFar (toZ-ofZ (c .before .before .before .before .before .before .before .before .fits .x)) (toZ-ofZ (c .before .before .before .before .before .before .before .before .fits .y)) (toZ-ofZ (c .before .before .before .before .before .before .before .before .fits .z))) ∙ sym (c .before .before .before .before .is-far .ensures) ∙ c .before .before .before .if2 .left) (c .before .before .if3 .left) (sym (seen (λ (q : Point). standsElse (c .before .before .before .before .before .before .before .before .args .d .held .points) q (take (c .before .before .before .before .before .before .before .before .args .d .held .points) (pointsOf (c .before .before .before .before .before .before .before .before .args .points .now)))) (toZ-ofZ (c .before .before .before .before .before .before .before .before .fits .x)) (toZ-ofZ (c .before .before .before .before .before .before .before .before .fits .y)) (toZ-ofZ (c .before .before .before .before .before .before .before .before .fits .z))) ∙ sym (c .before .stands-else .ensures) ∙ c .if4 .left)
 

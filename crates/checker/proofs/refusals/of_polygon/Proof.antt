@@ -1,3 +1,4 @@
+-- `checker::refusals::of_polygon` meets its contract.
 use Rattle.checker.specs.Rows.{polygon-misplaced, polygon-absent, polygon-many, polygon-full, polygon-accepted}
 use Rattle.frame.specs.Frame.{numbers}
 use lib.ListN.{drop}
@@ -7,54 +8,39 @@ use mathlib.Core.Path.{_≡_, refl, sym, ap, _∙_}
 use borrow.Author.Needs.{needs}
 use Rattle.checker.proofs.refusals.of_polygon.Statement.{statement}
 use Rattle.checker.proofs.refusals.of_polygon.Tie as tie
-use Rattle.checker.proofs.refusals.of_polygon.Reads as reads
-use Rattle.checker.proofs.refusals.of_polygon.Lts as lts
-use Rattle.checker.proofs.refusals.is_loading.Reads as is-loading-reads
-use Rattle.checker.proofs.refusals.names_absent.Reads as names-absent-reads
 
--- src/refusals.rt:84:9
 is-loading-requires : tie.Need-is-loading-requires
 is-loading-requires c κs = search needs
 
--- src/refusals.rt:85:9
 returns : tie.Need-returns
 returns c = polygon-misplaced (c .before .before .before .before .args .starts .now) (c .before .before .before .before .args .d) (numbers (drop 2 (c .before .before .before .before .args .line .now))) (sym (c .before .is-loading .ensures) ∙ not-true (c .before .is-loading .result) (c .if1 .taken))
 
--- src/refusals.rt:87:8
 names-absent-requires : tie.Need-names-absent-requires
 names-absent-requires c κs = search needs
 
--- src/refusals.rt:88:9
 returns-2 : tie.Need-returns-2
 returns-2 c = polygon-absent (c .before .before .before .before .before .before .args .starts .now) (c .before .before .before .before .before .before .args .d) (numbers (drop 2 (c .before .before .before .before .before .before .args .line .now))) (sym (c .before .before .before .is-loading .ensures) ∙ not-false (c .before .before .before .is-loading .result) (c .before .before .if1 .left)) (sym (c .before .names-absent .ensures) ∙ c .if2 .taken)
 
--- src/refusals.rt:91:9
 returns-3 : tie.Need-returns-3
 returns-3 c = polygon-many (c .before .before .before .before .before .before .before .args .starts .now) (c .before .before .before .before .before .before .before .args .d) (numbers (drop 2 (c .before .before .before .before .before .before .before .args .line .now))) (sym (c .before .before .before .before .is-loading .ensures) ∙ not-false (c .before .before .before .before .is-loading .result) (c .before .before .before .if1 .left)) (sym (c .before .before .names-absent .ensures) ∙ c .before .if2 .left) (c .if3 .taken)
 
--- src/refusals.rt:93:16
 mul-used : tie.Need-mul-used
 mul-used c = search needs
 
--- src/refusals.rt:93:16
 element-copy-out-used : tie.Need-element-copy-out-used
 element-copy-out-used c = search needs
 
--- src/refusals.rt:93:16
 cast-used : tie.Need-cast-used
 cast-used c = search needs
 
--- src/refusals.rt:94:15
 add-if4 : tie.Need-add-if4
 add-if4 c = search needs
 
--- src/refusals.rt:95:9
 returns-4 : tie.Need-returns-4
 returns-4 c =
     let n = c .before .before .before .before .before .before .before .before .before .pre .0 .count in
     polygon-full (c .before .before .before .before .before .before .before .before .before .args .starts .now) (c .before .before .before .before .before .before .before .before .before .args .d) (numbers (drop 2 (c .before .before .before .before .before .before .before .before .before .args .line .now))) (sym (c .before .before .before .before .before .before .is-loading .ensures) ∙ not-false (c .before .before .before .before .before .before .is-loading .result) (c .before .before .before .before .before .if1 .left)) (sym (c .before .before .before .before .names-absent .ensures) ∙ c .before .before .before .if2 .left) (c .before .before .if3 .left) (omega arith)
 
--- src/refusals.rt:76:1
 returns-5 : tie.Need-returns-5
 returns-5 c =
     let n = c .before .before .before .before .before .before .before .before .before .pre .0 .count in

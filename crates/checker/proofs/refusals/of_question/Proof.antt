@@ -1,26 +1,20 @@
+-- `checker::refusals::of_question` meets its contract.
 use Rattle.checker.specs.Rows.{question-misplaced, question-absent, question-accepted}
 use borrow.Author.Tests.{not-true, not-false}
 use mathlib.Core.Path.{_≡_, refl, sym, ap, _∙_}
 use borrow.Author.Needs.{needs}
 use Rattle.checker.proofs.refusals.of_question.Statement.{statement}
 use Rattle.checker.proofs.refusals.of_question.Tie as tie
-use Rattle.checker.proofs.refusals.of_question.Reads as reads
-use Rattle.checker.proofs.refusals.of_question.Lts as lts
-use Rattle.checker.proofs.refusals.is_holding.Reads as is-holding-reads
 
--- src/refusals.rt:165:9
 is-holding-requires : tie.Need-is-holding-requires
 is-holding-requires c κs = search needs
 
--- src/refusals.rt:166:9
 returns : tie.Need-returns
 returns c = question-misplaced (c .before .before .before .args .d) (c .before .before .before .args .p) (sym (c .before .is-holding .ensures) ∙ not-true (c .before .is-holding .result) (c .if1 .taken))
 
--- src/refusals.rt:169:9
 returns-2 : tie.Need-returns-2
 returns-2 c = question-absent (c .before .before .before .before .args .d) (c .before .before .before .before .args .p) (sym (c .before .before .is-holding .ensures) ∙ not-false (c .before .before .is-holding .result) (c .before .if1 .left)) (c .if2 .taken)
 
--- src/refusals.rt:159:1
 returns-3 : tie.Need-returns-3
 returns-3 c = question-accepted (c .before .before .before .before .args .d) (c .before .before .before .before .args .p) (sym (c .before .before .is-holding .ensures) ∙ not-false (c .before .before .is-holding .result) (c .before .if1 .left)) (c .if2 .left)
 

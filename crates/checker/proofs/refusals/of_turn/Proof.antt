@@ -1,30 +1,23 @@
+-- `checker::refusals::of_turn` meets its contract.
 use Rattle.checker.specs.Rows.{turn-misplaced, turn-late, turn-absent, turn-accepted}
 use borrow.Author.Tests.{not-true, not-false}
 use mathlib.Core.Path.{_≡_, refl, sym, ap, _∙_}
 use borrow.Author.Needs.{needs}
 use Rattle.checker.proofs.refusals.of_turn.Statement.{statement}
 use Rattle.checker.proofs.refusals.of_turn.Tie as tie
-use Rattle.checker.proofs.refusals.of_turn.Reads as reads
-use Rattle.checker.proofs.refusals.of_turn.Lts as lts
-use Rattle.checker.proofs.refusals.is_holding.Reads as is-holding-reads
 
--- src/refusals.rt:146:9
 is-holding-requires : tie.Need-is-holding-requires
 is-holding-requires c κs = search needs
 
--- src/refusals.rt:147:9
 returns : tie.Need-returns
 returns c = turn-misplaced (c .before .before .before .args .d) (c .before .before .before .args .number) (c .before .before .before .args .p) (sym (c .before .is-holding .ensures) ∙ not-true (c .before .is-holding .result) (c .if1 .taken))
 
--- src/refusals.rt:150:9
 returns-2 : tie.Need-returns-2
 returns-2 c = turn-late (c .before .before .before .before .args .d) (c .before .before .before .before .args .number) (c .before .before .before .before .args .p) (sym (c .before .before .is-holding .ensures) ∙ not-false (c .before .before .is-holding .result) (c .before .if1 .left)) (c .if2 .taken)
 
--- src/refusals.rt:153:9
 returns-3 : tie.Need-returns-3
 returns-3 c = turn-absent (c .before .before .before .before .before .args .d) (c .before .before .before .before .before .args .number) (c .before .before .before .before .before .args .p) (sym (c .before .before .before .is-holding .ensures) ∙ not-false (c .before .before .before .is-holding .result) (c .before .before .if1 .left)) (c .before .if2 .left) (c .if3 .taken)
 
--- src/refusals.rt:139:1
 returns-4 : tie.Need-returns-4
 returns-4 c = turn-accepted (c .before .before .before .before .before .args .d) (c .before .before .before .before .before .args .number) (c .before .before .before .before .before .args .p) (sym (c .before .before .before .is-holding .ensures) ∙ not-false (c .before .before .before .is-holding .result) (c .before .before .if1 .left)) (c .before .if2 .left) (c .if3 .left)
 
