@@ -107,3 +107,17 @@ module _ (p q : ℤ) where
     pub apart-is : (ltZ (most p q) c && ltZ (most p q) d || ltZ c (least p q) && ltZ d (least p q)) ≡ not (overlap p q c d)
     unfolding overlap
     apart-is = ap₂ _||_ under-most under-least ∙ apart-or (under p q c d) (under c d p q)
+
+-- what the code tests of boxes
+box-under : (p q c d : ℤ) → ltZ (most p q) (least c d) ≡ under p q c d
+box-under p q c d = same-test _ _ forth back ∙ under-most p q c d
+  where
+    forth : ltZ (most p q) (least c d) ≡ true → (ltZ (most p q) c && ltZ (most p q) d) ≡ true
+    forth e = let m = above-least c d (most p q) e in both (m .0) (m .1)
+
+    back : (ltZ (most p q) c && ltZ (most p q) d) ≡ true → ltZ (most p q) (least c d) ≡ true
+    back e = least-above c d (most p q) (and-left (ltZ (most p q) c) (ltZ (most p q) d) e) (and-right (ltZ (most p q) c) (ltZ (most p q) d) e)
+
+pub box-apart : (p q c d : ℤ) → (ltZ (most p q) (least c d) || ltZ (most c d) (least p q)) ≡ not (overlap p q c d)
+unfolding overlap
+box-apart p q c d = ap₂ _||_ (box-under p q c d) (box-under c d p q) ∙ apart-or (under p q c d) (under c d p q)

@@ -1,4 +1,5 @@
 -- `polygon::crossed_many` meets its contract. As `crossed_few`, in larger room.
+use native.Mathlib.Omega.{arith}
 use mathlib.Core.Path.{_∙_}
 use borrow.Author.Needs.{needs}
 use Rattle.polygon.proofs.Columns.{spread-is, crossed-is}
@@ -17,24 +18,24 @@ slice-aggregate-fill-2 c = search needs
 fill-requires-2 : tie.Need-fill-requires-2
 fill-requires-2 c κs = search needs
 
-slice-aggregate-crossings : tie.Need-slice-aggregate-crossings
-slice-aggregate-crossings c = search needs
+slice-aggregate-crossings-many : tie.Need-slice-aggregate-crossings-many
+slice-aggregate-crossings-many c = search needs
 
-slice-aggregate-crossings-2 : tie.Need-slice-aggregate-crossings-2
-slice-aggregate-crossings-2 c = search needs
+slice-aggregate-crossings-many-2 : tie.Need-slice-aggregate-crossings-many-2
+slice-aggregate-crossings-many-2 c = search needs
 
-sub-crossings : tie.Need-sub-crossings
-sub-crossings c = search needs
+sub-crossings-many : tie.Need-sub-crossings-many
+sub-crossings-many c = search needs
 
-crossings-requires : tie.Need-crossings-requires
-crossings-requires c κs =
+crossings-many-requires : tie.Need-crossings-many-requires
+crossings-many-requires c κs =
     let h = c .before .before .before .before .before .before .before .before .before .pre .1 .1 in
-    spread-is (c .before .before .before .before .before .before .before .before .before .pre .0) (h .1) (h .0) (c .before .before .before .before .before .before .fill .ensures) (c .before .before .before .fill2 .ensures)
+    (spread-is (c .before .before .before .before .before .before .before .before .before .pre .0) (h .1) (omega arith) (c .before .before .before .before .before .before .fill .ensures) (c .before .before .before .fill2 .ensures), (omega arith, omega arith))
 
 returns : tie.Need-returns
 returns c =
     let h = c .before .before .before .before .before .before .before .before .before .before .pre .1 .1 in
-    c .crossings .ensures ∙ crossed-is (c .before .before .before .before .before .before .before .before .before .before .pre .0) (h .1) (h .0) (c .before .before .before .before .before .before .before .fill .ensures) (c .before .before .before .before .fill2 .ensures)
+    c .crossings-many .ensures ∙ crossed-is (c .before .before .before .before .before .before .before .before .before .before .pre .0) (h .1) (omega arith) (c .before .before .before .before .before .before .before .fill .ensures) (c .before .before .before .before .fill2 .ensures)
 
 pub crossed-many-spec : {M : Type 1} → statement M
 crossed-many-spec =
@@ -44,8 +45,8 @@ crossed-many-spec =
     fill-requires
     slice-aggregate-fill-2
     fill-requires-2
-    slice-aggregate-crossings
-    slice-aggregate-crossings-2
-    sub-crossings
-    crossings-requires
+    slice-aggregate-crossings-many
+    slice-aggregate-crossings-many-2
+    sub-crossings-many
+    crossings-many-requires
     returns)
