@@ -6,6 +6,6 @@ mod Sizing
 mod Even
 mod Stretches
 mod Pairs
-mod Nearness
 mod Columns
+mod Nearness
 mod Order

@@ -1,24 +1,25 @@
 -- Boxes that are parted: what they tell of two edges, and of a row of edges.
 use Prim.Native.Nat.{ℕ, zero, suc, _+_, _-_, _≤_, _<_}
 use native.Mathlib.Omega.{arith}
-use mathlib.Core.Path.{_≡_, refl, sym, ap, ap₂, _∙_, subst}
-use mathlib.Core.Bool.{Bool, true, false, cond, not, _&&_, _||_, true≢false, false≢true}
+use mathlib.Core.Path.{_≡_, refl, sym, ap, ap₂, _∙_}
+use mathlib.Core.Bool.{Bool, true, false, cond, not, _&&_, _||_}
 use mathlib.Core.List.{List}
 use borrow.Author.Tests.{ne-eqb}
 use lib.Dec.{eqb}
 use lib.ListN.{length, getD, drop, set, length-set}
-use lib.Seq.{getD-set-same, getD-set-other}
 use native.Mathlib.Decide.{decLt}
 use lib.IntN.{ℤ, pos}
 use lib.Signed.{ltZ}
 use Rattle.whole.specs.Lists.{any}
 use Rattle.whole.specs.Size.{Small}
-use Rattle.polygon.specs.Plane.{overlap, share}
+use Rattle.polygon.specs.Plane.{overlap}
 use Rattle.polygon.specs.Ring.{forbidden}
 use Rattle.polygon.specs.Leaves.{least, most, edgeAt, Spread}
 use Rattle.polygon.specs.Boxes.{ending, Line, Endings, Boxes, parted, Parted}
+use Rattle.polygon.specs.Meet.{and-left, and-right}
+use Rattle.polygon.proofs.Columns.{copy-more}
 use Rattle.polygon.proofs.Stretches.{box-apart}
-use Rattle.polygon.proofs.Pairs.{edges, share-apart, clash-other, row-next, row-end}
+use Rattle.polygon.proofs.Pairs.{edges, share-apart, clash-other, row-next}
 
 -- ---- the copy: the first i are there
 pub record Ending (us : List ℤ) (high : Bool) (m n : ℕ) (room : List ℤ) (i : ℕ) : Type 0 where
@@ -35,14 +36,8 @@ ending-more {us} {high} {m} {n} {room} {i} f l h x e =
     record {
       upto = omega arith;
       all = length-set room i x ∙ f .all;
-      each = λ j g. go j (decLt j i) g;
+      each = copy-more (λ j. ending high (getD us j (pos 0)) (getD us (j + 1) (pos 0))) room i h (f .each) x e;
     }
-  where
-    go : (j : ℕ) → Dec (j < i) → j < i + 1 → getD (set room i x) j (pos 0) ≡ ending high (getD us j (pos 0)) (getD us (j + 1) (pos 0))
-    go j (yes p) g = getD-set-other room i j x (pos 0) (λ z. omega arith) ∙ f .each j p
-    go j (no p) g =
-        let z : j ≡ i = omega arith in
-        ap (λ (k : ℕ). getD (set room i x) k (pos 0)) z ∙ getD-set-same room i x (pos 0) h ∙ e ∙ ap (λ (k : ℕ). ending high (getD us k (pos 0)) (getD us (k + 1) (pos 0))) (sym z)
 
 pub ending-end : {us : List ℤ} {high : Bool} {m n : ℕ} {room : List ℤ} {i : ℕ} → Ending us high m n room i → m ≤ i → Endings us high m n room
 ending-end f e = record { all = f .all; each = λ j h. f .each j (omega arith) }
@@ -54,7 +49,7 @@ module _ (us : List ℤ) {m n : ℕ} {ls hs : List ℤ} (l : Endings us false m 
       (λ t. ltZ (h .each i a t) (l .each k b t) || ltZ (h .each k b t) (l .each i a t))
       ∙ box-apart (getD us i (pos 0)) (getD us (i + 1) (pos 0)) (getD us k (pos 0)) (getD us (k + 1) (pos 0))
 
-first-and : (i n m : ℕ) → 1 ≤ i → (eqb i 0 && eqb n m) ≡ false
+pub first-and : (i n m : ℕ) → 1 ≤ i → (eqb i 0 && eqb n m) ≡ false
 first-and i n m h = ap (λ (t : Bool). t && eqb n m) (ne-eqb i 0 (λ e. absurd (omega arith)))
 
 module _ {us vs : List ℤ} {m : ℕ} {lus hus lvs hvs : List ℤ} (x : Boxes us vs m lus hus lvs hvs) (i : ℕ) (p : 1 ≤ i) where
@@ -86,14 +81,6 @@ module _ {us vs : List ℤ} {m : ℕ} {lus hus lvs hvs : List ℤ} (x : Boxes us
 -- ---- eight boxes: the first n are parted, where all are
 pub parted-none : (lus hus lvs hvs : List ℤ) (i j : ℕ) (r : Bool) → Parted lus hus lvs hvs i j (j + 0) r
 parted-none lus hus lvs hvs i j r = record { each = λ t k a b. absurd (omega arith) }
-
-and-left : (a b : Bool) → (a && b) ≡ true → a ≡ true
-and-left true b e = refl
-and-left false b e = absurd (false≢true e)
-
-and-right : (a b : Bool) → (a && b) ≡ true → b ≡ true
-and-right true b e = e
-and-right false b e = absurd (false≢true e)
 
 pub parted-more : {lus hus lvs hvs : List ℤ} {i j : ℕ} {r : Bool} (n : ℕ) → Parted lus hus lvs hvs i j (j + n) r → (beside above : Bool)
     → beside ≡ parted lus hus i (j + n) → above ≡ parted lvs hvs i (j + n) → Parted lus hus lvs hvs i j (j + (n + 1)) (r && (beside || above))

@@ -480,29 +480,20 @@ fn clash(us: &[i64], vs: &[i64], m: usize, i: usize, j: usize) -> bool
     share(e, f)
 }
 
-// Whether edge i of m and one from j up to e do.
-fn clashes_in(us: &[i64], vs: &[i64], m: usize, i: usize, j: usize, e: usize) -> bool
-    requires { ⌜ Spread (now us) (now vs) m ⌝ }
-    requires { ⌜ (i < j) × (j ≤ e) × (e ≤ m) ⌝ }
-    ensures { λ r. ⌜ any (forbidden m (i, edgeAt (now (us .entry)) (now (vs .entry)) i)) (drop j (numbered (tab (edgeAt (now (us .entry)) (now (vs .entry))) m))) ≡ (r || any (forbidden m (i, edgeAt (now (us .entry)) (now (vs .entry)) i)) (drop e (numbered (tab (edgeAt (now (us .entry)) (now (vs .entry))) m)))) ⌝ }
-{
-    let mut n = j;
-    while n < e {
-        if clash(us, vs, m, i, n) {
-            return true;
-        }
-        n += 1;
-    }
-    false
-}
-
 // Whether edge i of m and a later one do.
 fn clashes(us: &[i64], vs: &[i64], m: usize, i: usize) -> bool
     requires { ⌜ Spread (now us) (now vs) m ⌝ }
     requires { ⌜ i < m ⌝ }
     ensures { λ r. ⌜ r ≡ any (forbidden m (i, edgeAt (now (us .entry)) (now (vs .entry)) i)) (drop (i + 1) (numbered (tab (edgeAt (now (us .entry)) (now (vs .entry))) m))) ⌝ }
 {
-    clashes_in(us, vs, m, i, i + 1, m)
+    let mut j = i + 1;
+    while j < m {
+        if clash(us, vs, m, i, j) {
+            return true;
+        }
+        j += 1;
+    }
+    false
 }
 
 // Whether some two of m edges do.
@@ -582,7 +573,60 @@ fn eight_parted(lus: &[i32], hus: &[i32], lvs: &[i32], hvs: &[i32], i: usize, j:
     all
 }
 
-// Whether edge i of m, neither the first nor a neighbour, and one from j up to e, at most eight, do.
+// Whether edges i and k of m, i not the first and k past its neighbour, do.
+fn clash_past(
+    us: &[i64],
+    vs: &[i64],
+    lus: &[i32],
+    hus: &[i32],
+    lvs: &[i32],
+    hvs: &[i32],
+    m: usize,
+    i: usize,
+    k: usize,
+) -> bool
+    requires { ⌜ Spread (now us) (now vs) m ⌝ }
+    requires { ⌜ Boxes (now us) (now vs) m (now lus) (now hus) (now lvs) (now hvs) ⌝ }
+    requires { ⌜ (1 ≤ i) × (i + 1 < k) × (k < m) ⌝ }
+    ensures { λ r. ⌜ r ≡ forbidden m (i, edgeAt (now (us .entry)) (now (vs .entry)) i) (k, edgeAt (now (us .entry)) (now (vs .entry)) k) ⌝ }
+{
+    let beside = parted(lus, hus, i, k);
+    let above = parted(lvs, hvs, i, k);
+    if beside | above {
+        return false;
+    }
+    share(edge_at(us, vs, i), edge_at(us, vs, k))
+}
+
+// Whether edge i of m, not the first, and one from j up to e, past its neighbour, do.
+fn clashes_in(
+    us: &[i64],
+    vs: &[i64],
+    lus: &[i32],
+    hus: &[i32],
+    lvs: &[i32],
+    hvs: &[i32],
+    m: usize,
+    i: usize,
+    j: usize,
+    e: usize,
+) -> bool
+    requires { ⌜ Spread (now us) (now vs) m ⌝ }
+    requires { ⌜ Boxes (now us) (now vs) m (now lus) (now hus) (now lvs) (now hvs) ⌝ }
+    requires { ⌜ (1 ≤ i) × (i + 1 < j) × (j ≤ e) × (e ≤ m) ⌝ }
+    ensures { λ r. ⌜ any (forbidden m (i, edgeAt (now (us .entry)) (now (vs .entry)) i)) (drop j (numbered (tab (edgeAt (now (us .entry)) (now (vs .entry))) m))) ≡ (r || any (forbidden m (i, edgeAt (now (us .entry)) (now (vs .entry)) i)) (drop e (numbered (tab (edgeAt (now (us .entry)) (now (vs .entry))) m)))) ⌝ }
+{
+    let mut n = j;
+    while n < e {
+        if clash_past(us, vs, lus, hus, lvs, hvs, m, i, n) {
+            return true;
+        }
+        n += 1;
+    }
+    false
+}
+
+// The same of at most eight edges: most are told apart by their boxes, all at once.
 fn clashes_eight(
     us: &[i64],
     vs: &[i64],
@@ -603,7 +647,7 @@ fn clashes_eight(
     if eight_parted(lus, hus, lvs, hvs, i, j) {
         return false;
     }
-    clashes_in(us, vs, m, i, j, e)
+    clashes_in(us, vs, lus, hus, lvs, hvs, m, i, j, e)
 }
 
 // Eight edges on from j, or where m edges end.
@@ -641,6 +685,16 @@ fn clashes_past(
     false
 }
 
+// Whether edge i of m and the next one do.
+fn clash_next(us: &[i64], vs: &[i64], m: usize, i: usize) -> bool
+    requires { ⌜ Spread (now us) (now vs) m ⌝ }
+    requires { ⌜ i + 1 < m ⌝ }
+    ensures { λ r. ⌜ r ≡ forbidden m (i, edgeAt (now (us .entry)) (now (vs .entry)) i) (i + 1, edgeAt (now (us .entry)) (now (vs .entry)) (i + 1)) ⌝ }
+{
+    let next = i + 1;
+    share_more(edge_at(us, vs, i), edge_at(us, vs, next))
+}
+
 // Whether edge i of m, not the first, and a later one do.
 fn clashes_boxed(
     us: &[i64],
@@ -661,7 +715,7 @@ fn clashes_boxed(
     if next == m {
         return false;
     }
-    if clash(us, vs, m, i, next) {
+    if clash_next(us, vs, m, i) {
         return true;
     }
     clashes_past(us, vs, lus, hus, lvs, hvs, m, i)

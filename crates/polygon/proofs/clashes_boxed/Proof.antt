@@ -19,13 +19,13 @@ returns c =
     let a = c .before .args in
     sym (row-end (a .us .now) (a .vs .now) (a .m) _ (a .i + 1) (c .if1 .taken))
 
-clash-requires : tie.Need-clash-requires
-clash-requires c κs = search needs
+clash-next-requires : tie.Need-clash-next-requires
+clash-next-requires c κs = search needs
 
 returns-2 : tie.Need-returns-2
 returns-2 c =
     let a = c .before .before .before .args in
-    sym (row-here (a .us .now) (a .vs .now) (a .m) _ (a .i + 1) (omega arith) (sym (c .before .clash .ensures) ∙ c .if2 .taken))
+    sym (row-here (a .us .now) (a .vs .now) (a .m) _ (a .i + 1) (omega arith) (sym (c .before .clash-next .ensures) ∙ c .if2 .taken))
 
 clashes-past-requires : tie.Need-clashes-past-requires
 clashes-past-requires c κs =
@@ -38,8 +38,8 @@ returns-3 c =
     let z : a .i + 2 ≡ a .i + 1 + 1 = omega arith in
     c .clashes-past .ensures
     ∙ ap (λ (n : ℕ). any (forbidden (a .m) (a .i, edgeAt (a .us .now) (a .vs .now) (a .i))) (drop n (edges (a .us .now) (a .vs .now) (a .m)))) z
-    ∙ row-next (a .us .now) (a .vs .now) (a .m) _ (a .i + 1) (omega arith) (sym (c .before .before .clash .ensures) ∙ c .before .if2 .left)
+    ∙ row-next (a .us .now) (a .vs .now) (a .m) _ (a .i + 1) (omega arith) (sym (c .before .before .clash-next .ensures) ∙ c .before .if2 .left)
 
 pub clashes-boxed-spec : {M : Type 1} → statement M
 clashes-boxed-spec =
-    tie.close (tie.spec add-next returns clash-requires returns-2 clashes-past-requires returns-3)
+    tie.close (tie.spec add-next returns clash-next-requires returns-2 clashes-past-requires returns-3)

@@ -3,7 +3,6 @@ use native.Mathlib.Omega.{arith}
 use mathlib.Core.Path.{_≡_, refl, sym, _∙_}
 use Prim.Native.Nat.{_≤_, _-_, _+_, _<_}
 use lib.ListN.{drop}
-use borrow.Author.Needs.{needs}
 use Rattle.whole.specs.Lists.{any}
 use Rattle.polygon.specs.Leaves.{edgeAt}
 use Rattle.polygon.specs.Ring.{forbidden}
