@@ -1,5 +1,5 @@
-// One stream to the checker, the plain baseline and the tuned one: result and every byte of the room must be the same. Stream
-// and room end at pages that may not be touched, since the archive itself carries no sanitizer.
+// One stream to the checker, the independent program of tests/ and the two baselines: result and every byte of the room must be
+// the same. Stream and room end at pages that may not be touched, since the archive itself carries no sanitizer.
 #ifndef FRAMECHECK_COMPARE_HPP
 #define FRAMECHECK_COMPARE_HPP
 
@@ -8,6 +8,10 @@
 #include "framecheck.h"
 
 #include <vector>
+
+// The independent program (tests/oracle), through tests/oracle_c.
+extern "C" std::int64_t framecheck_oracle_answer(const std::uint8_t *stream, std::size_t stream_len, std::uint8_t *room,
+                                                 std::size_t room_len);
 
 namespace fuzz {
 
@@ -19,6 +23,14 @@ struct Outcome {
     std::int64_t result;
     std::vector<std::uint8_t> room;
 };
+
+struct Other {
+    Entry entry;
+    const char *name;
+};
+
+constexpr Other others[] = {
+    {framecheck_oracle_answer, "independent program"}, {framecheck_plain_answer, "plain"}, {framecheck_tuned_answer, "tuned"}};
 
 inline Outcome ask(Entry entry, const std::uint8_t *data, std::size_t size, std::size_t room) {
     static test::Fenced in(most_stream), out(most_room);
@@ -37,11 +49,11 @@ inline void compare(const std::uint8_t *data, std::size_t size) {
     const std::size_t rooms[] = {room, enough > 0 && enough <= most_room ? enough - 1 : 0};
     for (std::size_t r : rooms) {
         const Outcome checker = ask(checker_answer, data, size, r);
-        for (Entry other : {framecheck_plain_answer, framecheck_tuned_answer}) {
-            const Outcome o = ask(other, data, size, r);
+        for (const Other &other : others) {
+            const Outcome o = ask(other.entry, data, size, r);
             if (o.result == checker.result && o.room == checker.room) continue;
-            std::fprintf(stderr, "answers differ: checker %lld, %s %lld\n", static_cast<long long>(checker.result),
-                         other == framecheck_plain_answer ? "plain" : "tuned", static_cast<long long>(o.result));
+            std::fprintf(stderr, "answers differ: checker %lld, %s %lld\n", static_cast<long long>(checker.result), other.name,
+                         static_cast<long long>(o.result));
             std::abort();
         }
     }
