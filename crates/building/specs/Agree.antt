@@ -1,45 +1,69 @@
 -- Any two results that a public function's statement allows agree.
+-- By `agree` of crate whole, since their statements are equations: is_far, stands_else, place, close_ring, verdict_of, faults_of,
+-- six_volume, check_number, element_a, element_b. Here: check_all, move_point and turn_polygon, every word of the arrays and the scalars.
 use Prim.Native.Nat.{ℕ, _<_}
-use mathlib.Core.Path.{_≡_, sym, ap, subst, _∙_}
-use mathlib.Core.List.{[]}
-use lib.ListN.{length, getD}
-use lib.IntN.{pos}
-use Rattle.polygon.specs.Ring.{finding, findingNumber, part}
+use native.Mathlib.Omega.{arith}
+use mathlib.Core.Path.{_≡_, sym, ap, ap₂, _∙_, subst}
+use mathlib.Core.Bool.{true≢false}
+use mathlib.Core.List.{List}
+use borrow.Author.Tests.{ltb-true, ltb-false}
+use lib.Dec.{ltb}
+use lib.IntN.{ℤ, pos}
+use Rattle.whole.specs.Agree.{agree}
+use Rattle.polygon.specs.Space.{Point}
+use Rattle.shell.specs.Agree.{built-agree}
 use Rattle.building.specs.declared.Scalars.{Scalars}
-use Rattle.building.specs.Tables.{Tables, Building}
-use Rattle.building.specs.Holds.{Arrays, heldTables, heldBuilding, Held, Did}
-use Rattle.building.specs.Load.{tables-polygons}
-use Rattle.building.specs.Told.{kept-finding, kept-part}
+use Rattle.building.specs.Lists.{cases, upto}
+use Rattle.building.specs.Holds.{Arrays}
+use Rattle.building.specs.Steps.{refind, repart}
+use Rattle.building.specs.Check.{EarlyAt}
+use Rattle.building.specs.Writes.{checked, MoveWrites, TurnWrites, TableWrites, LoadWrites}
 
--- what equals one thing is one thing: is_far, stands_else, place, close_ring, verdict_of, faults_of, six_volume, check_number, element_a, element_b
-pub agree : {A : Type 0} {x y z : A} → x ≡ z → y ≡ z → x ≡ y
-agree p q = p ∙ sym q
+module _ (a : Arrays) (s : Scalars) where
+  module _ {number n : ℕ} {p : Point} {points' points'' : List ℤ} {stamps' stamps'' findings' findings'' : List ℕ} {parts' parts'' : List ℤ} {r r' : Scalars}
+      (m : MoveWrites a s number n p points' stamps' findings' parts' r) (m' : MoveWrites a s number n p points'' stamps'' findings'' parts'' r') where
+    same : points' ≡ points''
+    same = agree (m .points) (m' .points)
 
--- check_all, move_point, turn_polygon: what is held after them is one building, and what is kept of each of its polygons is the same.
--- (What the arrays hold beyond the counts, and how the edge table spells the same edges, is told of nothing.)
-module _ {b : Building} {a a′ : Arrays} {s s′ : Scalars} (d : Did b a s) (d′ : Did b a′ s′) where
-  pub building-agrees : heldBuilding a s ≡ heldBuilding a′ s′
-  building-agrees = agree (d .is) (d′ .is)
+    pub move-agrees : (points' ≡ points'') × (stamps' ≡ stamps'') × (findings' ≡ findings'') × (parts' ≡ parts'') × (r ≡ r')
+    move-agrees = (
+      same,
+      agree (m .looked .stamped) (m' .looked .stamped),
+      m .looked .found ∙ ap (λ (l : List ℤ). upto (refind (s .tolerance) l (a .entries) (a .starts) n) 0 (a .findings) (s .polygons)) same ∙ sym (m' .looked .found),
+      m .looked .summed ∙ ap (λ (l : List ℤ). upto (repart l (a .entries) (a .starts) n) (pos 0) (a .parts) (s .polygons)) same ∙ sym (m' .looked .summed),
+      agree (m .scalars) (m' .scalars),
+    )
 
-  tables-agree : heldTables (a .points) (a .entries) (a .starts) s ≡ heldTables (a′ .points) (a′ .entries) (a′ .starts) s′
-  unfolding heldBuilding
-  tables-agree = ap (λ (x : Building). x .tables) building-agrees
+  pub turn-agrees : {number n : ℕ} {entries' entries'' stamps' stamps'' : List ℕ} {parts' parts'' : List ℤ} {turned' turned'' : List ℕ} {r r' : Scalars} → TurnWrites a s number n entries' stamps' parts' turned' r → TurnWrites a s number n entries'' stamps'' parts'' turned'' r'
+      → (entries' ≡ entries'') × (stamps' ≡ stamps'') × (parts' ≡ parts'') × (turned' ≡ turned'') × (r ≡ r')
+  turn-agrees t t' = (agree (t .entries) (t' .entries), agree (t .stamps) (t' .stamps), agree (t .parts) (t' .parts), agree (t .turned) (t' .turned), agree (t .scalars) (t' .scalars))
 
-  counts-agree : s .polygons ≡ s′ .polygons
-  counts-agree = sym (tables-polygons (d .held .loaded)) ∙ ap (λ (t : Tables). length (t .polygons)) tables-agree ∙ tables-polygons (d′ .held .loaded)
+  -- the first polygon that fails one of checks 01 to 03 is one
+  before : {l : List ℕ} {m i j : ℕ} → EarlyAt l m i → EarlyAt l m j → i < j → ⊥
+  before {l = l} {i = i} e f h = true≢false (sym (e .here (omega (arith, f .none .passed))) ∙ f .none .before i h)
 
-  module _ (p : ℕ) (h : p < s .polygons) where
-    h′ : p < s′ .polygons
-    h′ = subst (λ (n : ℕ). p < n) counts-agree h
+  low-agrees : {l : List ℕ} {m i j : ℕ} → EarlyAt l m i → EarlyAt l m j → i ≡ j
+  low-agrees {i = i} {j = j} e f =
+      cases (ltb i j)
+      (λ t. absurd (before e f (ltb-true i j t)))
+      (λ t. cases (ltb j i)
+      (λ u. absurd (before f e (ltb-true j i u)))
+      (λ u. omega (arith, ltb-false i j t, ltb-false j i u)))
 
-    pub findings-agree : getD (a .findings) p 0 ≡ getD (a′ .findings) p 0
-    findings-agree =
-        kept-finding (d .held .loaded) (d .held .kept .found) p h
-        ∙ ap (λ (t : Tables). findingNumber (finding (t .tolerance) (t .points) (getD (t .polygons) p []))) tables-agree
-        ∙ sym (kept-finding (d′ .held .loaded) (d′ .held .kept .found) p h′)
+  table-agrees : {low : ℕ} {table' table'' : List ℕ} {r r' : Scalars} → TableWrites a s low table' r → TableWrites a s low table'' r' → (table' ≡ table'') × (r ≡ r')
+  table-agrees {low = low} {table' = table'} {table'' = table''} {r = r} {r' = r'} t t' =
+      cases (ltb low (s .polygons))
+      (λ h. let l = t .left (ltb-true low (s .polygons) h) in
+      let l' = t' .left (ltb-true low (s .polygons) h) in
+      (agree (l .0) (l' .0), agree (l .1) (l' .1)))
+      (λ h. let b = t .built (ltb-false low (s .polygons) h) in
+      let b' = t' .built (ltb-false low (s .polygons) h) in
+      let e = built-agree (a .entries) (a .starts) (s .polygons) (a .table) table' table'' (r .edges) (r' .edges) (r .fixed) (r' .fixed) (b .0) (b' .0) in
+      (e .0, b .1 ∙ ap₂ (checked s) (e .1) (e .2) ∙ sym (b' .1)))
 
-    pub parts-agree : getD (a .parts) p (pos 0) ≡ getD (a′ .parts) p (pos 0)
-    parts-agree =
-        kept-part (d .held .loaded) (d .held .kept .summed) p h
-        ∙ ap (λ (t : Tables). part (t .points) (getD (t .polygons) p [])) tables-agree
-        ∙ sym (kept-part (d′ .held .loaded) (d′ .held .kept .summed) p h′)
+  pub load-agrees : {stamps' stamps'' findings' findings'' : List ℕ} {parts' parts'' : List ℤ} {table' table'' turned' turned'' : List ℕ} {r r' : Scalars} → LoadWrites a s stamps' findings' parts' table' turned' r → LoadWrites a s stamps'' findings'' parts'' table'' turned'' r'
+      → (stamps' ≡ stamps'') × (findings' ≡ findings'') × (parts' ≡ parts'') × ((table' ≡ table'') × (r ≡ r')) × (turned' ≡ turned'')
+  load-agrees {findings' = findings'} {findings'' = findings''} {table'' = table''} {r' = r'} w w' =
+      let e : findings' ≡ findings'' = agree (w .each .found) (w' .each .found) in
+      let l : w .low ≡ w' .low = low-agrees (subst (λ (f : List ℕ). EarlyAt f (s .polygons) (w .low)) e (w .early)) (w' .early) in
+      (agree (w .stamps) (w' .stamps), e, agree (w .each .summed) (w' .each .summed), table-agrees (w .table) (subst (λ (i : ℕ). TableWrites a s i table'' r') (sym l) (w' .table)), agree (w .turned) (w' .turned))

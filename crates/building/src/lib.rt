@@ -25,6 +25,7 @@ ghost use Rattle.building.specs.Steps.{Refreshed, Touched, Looked, Check
 ghost use Rattle.building.specs.Check.{isEarly, EarlyAt};
 ghost use Rattle.building.specs.Places.{elseAt};
 ghost use Rattle.building.specs.Scans.{lowest, Summable};
+ghost use Rattle.building.specs.Writes.{MoveWrites, TurnWrites, LoadWrites};
 
 // The check that a report names, with its elements. `checkNumber`, `elementA` and `elementB` give document 01's numbers.
 pub enum Verdict {
@@ -214,6 +215,7 @@ pub fn turn_polygon(
     requires { ⌜ Held (arrays (now points) (now entries) (now starts) (now stamps) (now findings) (now parts) (now table) (now turned)) s ⌝ }
     requires { ⌜ n < s .polygons ⌝ }
     ensures { λ r. ⌜ Did (Tables.turned number n (heldBuilding (arrays (now (points .entry)) (now (entries .entry)) (now (starts .entry)) (now (stamps .entry)) (now (findings .entry)) (now (parts .entry)) (now (table .entry)) (now (turned .entry))) s)) (arrays (now (points .entry)) (now (entries .exit)) (now (starts .entry)) (now (stamps .exit)) (now (findings .entry)) (now (parts .exit)) (now (table .entry)) (now (turned .exit))) r ⌝ }
+    ensures { λ r. ⌜ TurnWrites (arrays (now (points .entry)) (now (entries .entry)) (now (starts .entry)) (now (stamps .entry)) (now (findings .entry)) (now (parts .entry)) (now (table .entry)) (now (turned .entry))) s number n (now (entries .exit)) (now (stamps .exit)) (now (parts .exit)) (now (turned .exit)) r ⌝ }
 {
     turn_ring(points, entries, starts, parts, n);
     stamps[n] = number;
@@ -346,6 +348,7 @@ pub fn move_point(
     requires { ⌜ n < s .points ⌝ }
     requires { ⌜ isFar (point3 x y z) ≡ false ⌝ }
     ensures { λ r. ⌜ Did (moved number n (point3 x y z) (heldBuilding (arrays (now (points .entry)) (now (entries .entry)) (now (starts .entry)) (now (stamps .entry)) (now (findings .entry)) (now (parts .entry)) (now (table .entry)) (now (turned .entry))) s)) (arrays (now (points .exit)) (now (entries .entry)) (now (starts .entry)) (now (stamps .exit)) (now (findings .exit)) (now (parts .exit)) (now (table .entry)) (now (turned .entry))) r ⌝ }
+    ensures { λ r. ⌜ MoveWrites (arrays (now (points .entry)) (now (entries .entry)) (now (starts .entry)) (now (stamps .entry)) (now (findings .entry)) (now (parts .entry)) (now (table .entry)) (now (turned .entry))) s number n (point3 x y z) (now (points .exit)) (now (stamps .exit)) (now (findings .exit)) (now (parts .exit)) r ⌝ }
 {
     place(points, n, x, y, z);
     look_again(
@@ -454,6 +457,7 @@ pub fn check_all(
     requires { ⌜ Loaded (now points) (now entries) (now starts) s ⌝ }
     requires { ⌜ Sizes (arrays (now points) (now entries) (now starts) (now stamps) (now findings) (now parts) (now table) (now turned)) ⌝ }
     ensures { λ r. ⌜ Did (loaded (heldTables (now (points .entry)) (now (entries .entry)) (now (starts .entry)) s)) (arrays (now (points .entry)) (now (entries .entry)) (now (starts .entry)) (now (stamps .exit)) (now (findings .exit)) (now (parts .exit)) (now (table .exit)) (now (turned .exit))) r ⌝ }
+    ensures { λ r. ⌜ LoadWrites (arrays (now (points .entry)) (now (entries .entry)) (now (starts .entry)) (now (stamps .entry)) (now (findings .entry)) (now (parts .entry)) (now (table .entry)) (now (turned .entry))) s (now (stamps .exit)) (now (findings .exit)) (now (parts .exit)) (now (table .exit)) (now (turned .exit)) r ⌝ }
 {
     check_rings(points, entries, starts, findings, parts, s);
     clear_stamps(stamps);

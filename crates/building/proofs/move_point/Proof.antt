@@ -1,5 +1,5 @@
 -- `building::move_point` meets its contract, by the law of a move (`did-moved`).
-use mathlib.Core.Path.{sym, ap, _∙_, subst}
+use mathlib.Core.Path.{refl, sym, ap, _∙_, subst}
 use mathlib.Core.List.{List}
 use lib.IntN.{ℤ}
 use Rattle.polygon.specs.Space.{Point}
@@ -29,8 +29,10 @@ returns c =
     let s = c .before .before .before .before .before .before .before in
     let a = s .args in
     let p = point3 (a .x) (a .y) (a .z) in
-    let e = c .before .before .before .before .before .place .ensures ∙ ap (λ (q : Point). placed (a .points .now) (a .n) q) (near-bits (a .x) (a .y) (a .z) (s .pre .1 .1)) in
-    did-moved (arrays (a .points .now) (a .entries .now) (a .starts .now) (a .stamps .now) (a .findings .now) (a .parts .now) (a .table .now) (a .turned .now)) (a .s) (s .pre .0) (a .number) (a .n) p (s .pre .1 .0) (near-place p (s .pre .1 .1)) e (c .look-again .ensures)
+    let e = c .before .before .before .before .before .place .ensures ∙ ap (λ (q : Point). placed (a .points .now) (a .n) q) (near-bits (a .x) (a .y) (a .z) (s .pre .1 .1)) in (
+      did-moved (arrays (a .points .now) (a .entries .now) (a .starts .now) (a .stamps .now) (a .findings .now) (a .parts .now) (a .table .now) (a .turned .now)) (a .s) (s .pre .0) (a .number) (a .n) p (s .pre .1 .0) (near-place p (s .pre .1 .1)) e (c .look-again .ensures),
+      record { points = e; looked = c .look-again .ensures; scalars = refl },
+    )
 
 pub move-point-spec : {M : Type 1} → statement M
 move-point-spec = tie.close (tie.spec place-requires cast-look-again look-again-requires returns)

@@ -32,8 +32,10 @@ returns : tie.Need-returns
 returns c =
     let s = c .before .before .before .before in
     let a = s .args in
-    let e = c .before .turn-ring .ensures in
-    did-turned (arrays (a .points .now) (a .entries .now) (a .starts .now) (a .stamps .now) (a .findings .now) (a .parts .now) (a .table .now) (a .turned .now)) (a .s) (s .pre .0) (a .number) (a .n) (s .pre .1) (e .0) refl (e .1) refl
+    let e = c .before .turn-ring .ensures in (
+      did-turned (arrays (a .points .now) (a .entries .now) (a .starts .now) (a .stamps .now) (a .findings .now) (a .parts .now) (a .table .now) (a .turned .now)) (a .s) (s .pre .0) (a .number) (a .n) (s .pre .1) (e .0) refl (e .1) refl,
+      record { entries = e .0; stamps = refl; parts = e .1; turned = refl; scalars = refl },
+    )
 
 pub turn-polygon-spec : {M : Type 1} → statement M
 turn-polygon-spec =

@@ -44,7 +44,7 @@ returns c =
     let g = c .before .before .before .before .before .before .before .before .before .before .before .before .before .before .before .before .before .before .args in
     let v = c .before .before .before .before .before .before .before .before .before .before .before .before .before .before .before .before .before .before .pre .1 in
     let w : Arrays = arrays (g .points .now) (g .entries .now) (g .starts .now) (g .stamps .now) (g .findings .now) (g .parts .now) (g .table .now) (g .turned .now) in
-    did-move w (g .d) v (g .number) (g .p) (g .x) (g .y) (g .z) (c .before .before .before .before .before .before .before .before .before .before .before .before .before .before .before .of-move .result) (c .before .before .before .before .before .before .before .before .before .before .before .before .before .before .before .of-move .ensures .is w refl v ∙ seen (λ (q : Point). refusal (service w (g .d)) (move (g .number) (g .p) (q .x) (q .y) (q .z))) (toZ-ofZ (c .before .before .before .before .before .before .before .before .before .before .before .before .before .before .before .before .before .before .fits .x)) (toZ-ofZ (c .before .before .before .before .before .before .before .before .before .before .before .before .before .before .before .before .before .before .fits .y)) (toZ-ofZ (c .before .before .before .before .before .before .before .before .before .before .before .before .before .before .before .before .before .before .fits .z))) (sym (c .before .before .before .before .before .before .before .before .before .before .before .before .before .before .is-accepted .ensures) ∙ c .before .before .before .before .before .before .before .before .before .before .before .before .before .if1 .taken) _ (seen (λ (q : Point). q) (toZ-ofZ (c .before .before .before .before .before .before .before .before .before .before .before .before .before .before .before .before .before .before .fits .x)) (toZ-ofZ (c .before .before .before .before .before .before .before .before .before .before .before .before .before .before .before .before .before .before .fits .y)) (toZ-ofZ (c .before .before .before .before .before .before .before .before .before .before .before .before .before .before .before .before .before .before .fits .z))) _ _ (c .before .before .before .before .before .before .before .move-point .ensures) (g .room .now) _ _ (c .before .before .put-report .ensures)
+    did-move w (g .d) v (g .number) (g .p) (g .x) (g .y) (g .z) (c .before .before .before .before .before .before .before .before .before .before .before .before .before .before .before .of-move .result) (c .before .before .before .before .before .before .before .before .before .before .before .before .before .before .before .of-move .ensures .is w refl v ∙ seen (λ (q : Point). refusal (service w (g .d)) (move (g .number) (g .p) (q .x) (q .y) (q .z))) (toZ-ofZ (c .before .before .before .before .before .before .before .before .before .before .before .before .before .before .before .before .before .before .fits .x)) (toZ-ofZ (c .before .before .before .before .before .before .before .before .before .before .before .before .before .before .before .before .before .before .fits .y)) (toZ-ofZ (c .before .before .before .before .before .before .before .before .before .before .before .before .before .before .before .before .before .before .fits .z))) (sym (c .before .before .before .before .before .before .before .before .before .before .before .before .before .before .is-accepted .ensures) ∙ c .before .before .before .before .before .before .before .before .before .before .before .before .before .if1 .taken) _ (seen (λ (q : Point). q) (toZ-ofZ (c .before .before .before .before .before .before .before .before .before .before .before .before .before .before .before .before .before .before .fits .x)) (toZ-ofZ (c .before .before .before .before .before .before .before .before .before .before .before .before .before .before .before .before .before .before .fits .y)) (toZ-ofZ (c .before .before .before .before .before .before .before .before .before .before .before .before .before .before .before .before .before .before .fits .z))) _ _ (c .before .before .before .before .before .before .before .move-point .ensures .0) (g .room .now) _ _ (c .before .before .put-report .ensures)
 
 refuse-requires : tie.Need-refuse-requires
 refuse-requires c κs = search needs

@@ -38,7 +38,7 @@ returns c =
     let g = c .before .before .before .before .before .before .before .before .before .before .before .before .before .before .before .before .before .args in
     let v = c .before .before .before .before .before .before .before .before .before .before .before .before .before .before .before .before .before .pre .1 in
     let w : Arrays = arrays (g .points .now) (g .entries .now) (g .starts .now) (g .stamps .now) (g .findings .now) (g .parts .now) (g .table .now) (g .turned .now) in
-    did-turn w (g .d) v (g .number) (g .p) (c .before .before .before .before .before .before .before .before .before .before .before .before .before .before .before .of-turn .result) (c .before .before .before .before .before .before .before .before .before .before .before .before .before .before .before .of-turn .ensures .is w tt v) (sym (c .before .before .before .before .before .before .before .before .before .before .before .before .before .before .is-accepted .ensures) ∙ c .before .before .before .before .before .before .before .before .before .before .before .before .before .if1 .taken) _ _ (c .before .before .before .before .before .before .before .turn-polygon .ensures) (g .room .now) _ _ (c .before .before .put-report .ensures)
+    did-turn w (g .d) v (g .number) (g .p) (c .before .before .before .before .before .before .before .before .before .before .before .before .before .before .before .of-turn .result) (c .before .before .before .before .before .before .before .before .before .before .before .before .before .before .before .of-turn .ensures .is w tt v) (sym (c .before .before .before .before .before .before .before .before .before .before .before .before .before .before .is-accepted .ensures) ∙ c .before .before .before .before .before .before .before .before .before .before .before .before .before .if1 .taken) _ _ (c .before .before .before .before .before .before .before .turn-polygon .ensures .0) (g .room .now) _ _ (c .before .before .put-report .ensures)
 
 refuse-requires : tie.Need-refuse-requires
 refuse-requires c κs = search needs
