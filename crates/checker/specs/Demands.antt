@@ -19,16 +19,17 @@ use Rattle.building.specs.declared.Verdict.the-variants.{Accepted, Faulty}
 use Rattle.building.specs.Thirteen.{NoneOfThirteen, accepted-none, none-accepted, named-polygon}
 use Rattle.building.specs.Thirteen as T
 use Rattle.building.specs.Corrections.{Correction, stampOf, lastNumber}
+use Rattle.checker.specs.declared.Refusal.{Refusal}
 use Rattle.checker.specs.declared.Refusal.the-variants.{Late}
-use Rattle.checker.specs.Service.{State, nothing, holding, tablesOf, buildingOf, refusal, refusalNumber, reportOf, toldOf, step}
+use Rattle.checker.specs.Service.{State, nothing, holding, tablesOf, buildingOf, refusal, refusalNumber, reportOf, toldOf, Outcome, outcome, step}
 use Rattle.checker.specs.Stream.{Served, wholeRefusal, served, answers}
 use Rattle.checker.specs.Refusals.{accepts, refused-line, after, struck, answersTo, acceptedAnswers, struck-stream}
 use Rattle.checker.specs.Fresh.{loadLines, freshReport, isCorrection}
-use Rattle.checker.specs.Span.{Span, loadedBy, correctionsOf, correctedBy, held, held-tables, stamp-is, correction-fresh, freshHeld, SameButStamp, question-fresh, Numbered, late-correction, end-reports}
+use Rattle.checker.specs.Span.{Span, loadedBy, correctionsOf, correctedBy, held, held-tables, stamp-is, correction-fresh, freshHeld, SameButStamp, question-fresh, Numbered, late-correction, end-reports, toldIn, question-told}
 use Rattle.checker.specs.Short.{step-short}
 use Rattle.checker.specs.Room as R
 use Rattle.checker.specs.Stream.{run, Answers}
-use Rattle.checker.specs.Entry.{answer-agrees, answers-last, freshStream, fresh-answers, entry-bytes, entry-refused}
+use Rattle.checker.specs.Entry.{Stands, answer-agrees, freshStream, fresh-answers, entry-bytes, entry-refused, entry-line}
 
 -- ---- 1. "Every sequence of bytes gets a fixed answer."
 
@@ -140,22 +141,40 @@ module _ (stream room : List ℕ) (code : ℤ) (room′ : List ℕ) (returned : 
     pub code-answers : (code ≡ pos (length (answers stream))) × (room′ ≡ answers stream ++ drop (length (answers stream)) room)
     code-answers = entry-bytes stream room code room′ returned a b c
 
-    -- 2. A stream that ends a load is answered last by the report of its tables, whose verdict and count are those of the thirteen checks.
-    pub code-report : (before : List (List ℕ)) (end : List ℕ) → lines stream ≡ before ++ (end ∷ []) → Span before end []
-        → room′ ≡ (run nothing before ++ ended (reportOf (loadedBy before))) ++ drop (length (answers stream)) room
-    code-report before end e s =
-        code-answers .1
-        ∙ ap (λ (q : List ℕ). q ++ drop (length (answers stream)) room) (answers-last stream before end e ∙ ap (λ (q : List ℕ). run nothing before ++ ended q) (end-reports before end s))
+    -- A frame that is refused is answered with its number only.
+    pub code-refused : (ls : List (List ℕ)) (l : List ℕ) (rest : List (List ℕ)) → lines stream ≡ ls ++ l ∷ rest → accepts (after nothing ls) l ≡ false
+        → Stands ls (plain (refusalNumber (refusal (after nothing ls) (decode l)))) room′
+    code-refused ls l rest e f = subst (λ (q : List ℕ). Stands ls q room′) (ap (λ (o : Outcome). o .answer) (refused-frame (after nothing ls) l f)) (entry-line stream room code room′ returned a b c ls l rest e)
 
-    -- 3. A stream whose last line is an accepted correction is answered last by what the bytes of a fresh load of the corrected tables are answered last.
-    pub code-correction : (before : List (List ℕ)) (end : List ℕ) (since : List (List ℕ)) (l : List ℕ) → Span before end since → lines stream ≡ (before ++ end ∷ since) ++ (l ∷ [])
-        → accepts (held before end since) l ≡ true → isCorrection (decode l) ≡ true
-        → room′ ≡ (run nothing (before ++ end ∷ since) ++ ended (freshReport (correctedBy before (since ++ (l ∷ []))))) ++ drop (length (answers stream)) room
-    unfolding held
-    code-correction before end since l s e t k =
-        code-answers .1
-        ∙ ap (λ (q : List ℕ). q ++ drop (length (answers stream)) room)
-        (answers-last stream (before ++ end ∷ since) l e ∙ ap (λ (q : List ℕ). run nothing (before ++ end ∷ since) ++ ended q) (same-report before end since s l t k))
+    -- 2. An accepted end of load is answered with the report of its tables, whose verdict, count and six-volume are those of the thirteen checks.
+    pub code-report : (before : List (List ℕ)) (end : List ℕ) (rest : List (List ℕ)) → lines stream ≡ before ++ end ∷ rest → Span before end [] → Stands before (reportOf (loadedBy before)) room′
+    code-report before end rest e s = subst (λ (q : List ℕ). Stands before q room′) (end-reports before end s) (entry-line stream room code room′ returned a b c before end rest e)
+
+    -- 3. In the span of a held building:
+    module _ (before : List (List ℕ)) (end : List ℕ) (since : List (List ℕ)) (s : Span before end since) (l : List ℕ) (rest : List (List ℕ)) (e : lines stream ≡ (before ++ end ∷ since) ++ l ∷ rest) where
+      here : Stands (before ++ end ∷ since) (step (held before end since) l .answer) room′
+      unfolding held
+      here = entry-line stream room code room′ returned a b c (before ++ end ∷ since) l rest e
+
+      -- an accepted correction is answered with the report that the bytes of a fresh load of the corrected tables are answered last;
+      pub code-correction : accepts (held before end since) l ≡ true → isCorrection (decode l) ≡ true → Stands (before ++ end ∷ since) (freshReport (correctedBy before (since ++ (l ∷ [])))) room′
+      code-correction t k = subst (λ (q : List ℕ). Stands (before ++ end ∷ since) q room′) (same-report before end since s l t k) here
+
+      -- an accepted question with the finding and the part of the corrected tables, and the stamp that the span's corrections give;
+      pub code-question : (n : ℕ) → decode l ≡ question n → accepts (held before end since) l ≡ true
+          → Stands (before ++ end ∷ since) (toldIn (correctedBy before since) n (stampOf (correctionsOf before since) n (getD (loadedBy before .polygons) n []))) room′
+      code-question n d t = subst (λ (q : List ℕ). Stands (before ++ end ∷ since) q room′) (question-told before end since s l n d t) here
+
+      -- a correction numbered no higher than the last accepted one with 07, and nothing else.
+      pub code-late : (number : ℕ) → Numbered (decode l) number → number ≤ lastNumber (correctionsOf before since) → Stands (before ++ end ∷ since) (plain 7) room′
+      unfolding step outcome refusalNumber
+      code-late number k h = subst (λ (q : List ℕ). Stands (before ++ end ∷ since) q room′) (ap (λ (r : Refusal). outcome r (held before end since) (decode l) .answer) (late-refused before end since s l number k h)) here
+
+-- A stream without its refused frames leaves the same answers to all the others, and no more.
+pub code-strike-out : (stream left room : List ℕ) (code : ℤ) (room′ : List ℕ) → Answers left room code room′ → length left ≤ 65535 → length (lines left) ≤ 1024 → 33 * length (lines left) ≤ length room
+    → lines left ≡ struck nothing (lines stream) → room′ ≡ joined (acceptedAnswers nothing (lines stream)) ++ drop (length (answers left)) room
+code-strike-out stream left room code room′ returned a b c e =
+    entry-bytes left room code room′ returned a b c .1 ∙ ap (λ (q : List ℕ). q ++ drop (length (answers left)) room) (strike-out stream left e)
 
 -- the bytes of a fresh load, and what they are answered last
 pub fresh-load : (t : Tables) → answers (freshStream t) ≡ run nothing (loadLines t) ++ ended (freshReport t)

@@ -24,18 +24,26 @@ use Rattle.checker.specs.Room.{answered-stream}
 pub answer-agrees : (stream room : List ℕ) (c₁ c₂ : ℤ) (r₁ r₂ : List ℕ) → Answers stream room c₁ r₁ → Answers stream room c₂ r₂ → (c₁ ≡ c₂) × (r₁ ≡ r₂)
 answer-agrees stream room c₁ c₂ r₁ r₂ a b = (agree (a .number) (b .number), agree (a .bytes) (b .bytes))
 
--- the answers to some lines and one more
-run-last : (st : State) (ls : List (List ℕ)) (l : List ℕ) → run st (ls ++ (l ∷ [])) ≡ run st ls ++ ended (step (after st ls) l .answer)
+-- the answers to some lines, to one more, and to those after it
+run-at : (st : State) (ls : List (List ℕ)) (l : List ℕ) (rest : List (List ℕ)) → run st (ls ++ l ∷ rest) ≡ run st ls ++ (ended (step (after st ls) l .answer) ++ run (step (after st ls) l .next) rest)
 unfolding run after
-run-last st [] l = append-nil (ended (step st l .answer))
-run-last st (m ∷ ls) l =
-    ap (λ (q : List ℕ). ended (step st m .answer) ++ q) (run-last (step st m .next) ls l)
-    ∙ sym (append-assoc (ended (step st m .answer)) (run (step st m .next) ls) (ended (step (after (step st m .next) ls) l .answer)))
+run-at st [] l rest = refl
+run-at st (m ∷ ls) l rest =
+    ap (λ (q : List ℕ). ended (step st m .answer) ++ q) (run-at (step st m .next) ls l rest)
+    ∙ sym (append-assoc (ended (step st m .answer)) (run (step st m .next) ls) (ended (step (after (step st m .next) ls) l .answer) ++ run (step (after (step st m .next) ls) l .next) rest))
+
+-- in the room, right behind the answers to these lines, stands this answer
+pub record Stands (lines-before : List (List ℕ)) (answer room′ : List ℕ) : Type 0 where
+  pub behind : List ℕ
+  pub is : room′ ≡ run nothing lines-before ++ (ended answer ++ behind)
 
 -- what a stream answers last
 pub answers-last : (stream : List ℕ) (ls : List (List ℕ)) (l : List ℕ) → lines stream ≡ ls ++ (l ∷ []) → answers stream ≡ run nothing ls ++ ended (step (after nothing ls) l .answer)
-unfolding answers
-answers-last stream ls l e = ap (run nothing) e ∙ run-last nothing ls l
+unfolding answers run
+answers-last stream ls l e =
+    ap (run nothing) e
+    ∙ run-at nothing ls l []
+    ∙ ap (λ (q : List ℕ). run nothing ls ++ q) (append-nil (ended (step (after nothing ls) l .answer)))
 
 -- the bytes of a fresh load: "begin with the same tolerance, the points, the polygons, end of load"
 unfoldable pub freshStream : Tables → List ℕ
@@ -75,3 +83,19 @@ module _ (stream room : List ℕ) (code : ℤ) (room′ : List ℕ) (returned : 
   -- a stream refused as a whole, with its number n
   pub entry-refused : (n : ℤ) → served stream room ≡ record { code = n; room = room } → (code ≡ n) × (room′ ≡ room)
   entry-refused n s = (returned .number ∙ ap (λ (q : Served). q .code) s, returned .bytes ∙ ap (λ (q : Served). q .room) s)
+
+  -- the answer to each of its lines stands behind those to the lines before
+  pub entry-line : length stream ≤ 65535 → length (lines stream) ≤ 1024 → 33 * length (lines stream) ≤ length room
+      → (ls : List (List ℕ)) (l : List ℕ) (rest : List (List ℕ)) → lines stream ≡ ls ++ l ∷ rest
+      → Stands ls (step (after nothing ls) l .answer) room′
+  unfolding answers
+  entry-line a b c ls l rest e =
+      let tail = drop (length (answers stream)) room in
+      let next = run (step (after nothing ls) l .next) rest in
+      record {
+        behind = next ++ tail;
+        is = entry-bytes a b c .1
+            ∙ ap (λ (q : List ℕ). q ++ tail) (ap (run nothing) e ∙ run-at nothing ls l rest)
+            ∙ append-assoc (run nothing ls) (ended (step (after nothing ls) l .answer) ++ next) tail
+            ∙ ap (λ (q : List ℕ). run nothing ls ++ q) (append-assoc (ended (step (after nothing ls) l .answer)) next tail);
+      }

@@ -1,9 +1,10 @@
 -- What holds from an accepted end of load until the next accepted begin.
 use Prim.Native.Nat.{ℕ, zero, suc, _≤_, _<_}
+use native.Mathlib.Omega.{arith}
 use mathlib.Core.Path.{_≡_, refl, sym, ap, _∙_, subst}
 use mathlib.Core.Bool.{Bool, true, false, _&&_, not, true≢false, false≢true}
 use mathlib.Core.List.{List, [], _∷_, _++_, map, append-assoc}
-use borrow.Author.Tests.{le-leb}
+use borrow.Author.Tests.{le-leb, leb-false}
 use lib.Dec.{leb}
 use lib.ListN.{length, getD}
 use lib.IntN.{ℤ}
@@ -15,7 +16,7 @@ use Rattle.polygon.specs.Ring.{finding, findingNumber, part}
 use Rattle.building.specs.Tables.{Tables, Building, Polygon, loaded}
 use Rattle.building.specs.Corrections.{Correction, corrected, stampOf}
 use Rattle.building.specs.Corrections as C
-use Rattle.building.specs.History.{told-loaded, stamp-told}
+use Rattle.building.specs.History.{told-loaded, stamp-told, polygons-told}
 use Rattle.building.specs.Loadable.{Loadable}
 use Rattle.checker.specs.declared.Refusal.{Refusal}
 use Rattle.checker.specs.declared.Refusal.the-variants.{Accepted, Late}
@@ -141,6 +142,10 @@ late-correction before end since s l number k h =
 
 -- ---- questions
 
+-- what is answered about polygon n of tables, with that stamp
+abbrev pub toldIn : Tables → ℕ → ℕ → List ℕ
+toldIn t n stamp = told (findingNumber (finding (t .tolerance) (t .points) (getD (t .polygons) n []))) stamp (part (t .points) (getD (t .polygons) n []))
+
 -- what is held once a fresh load of tables has ended
 unfoldable pub freshHeld : Tables → State
 freshHeld t = after nothing (loadLines t ++ (encode end-of-load ∷ []))
@@ -211,3 +216,20 @@ question-fresh before end since s l n d a =
     let e : held before end since ≡ holding b = held-told before end since s in
     let f : freshHeld (correctedBy before since) ≡ holding (loaded (b .tables)) = fresh-held (correctedBy before since) (corrected-loadable before end since s) in
     rw (e, f) (same-question b l n d (rw e at a))
+
+-- an accepted question names a polygon that was loaded
+question-known : (t : Tables) (h : List Correction) (l : List ℕ) (n : ℕ) → decode l ≡ question n → accepts (holding (C.told t h)) l ≡ true → n < length (t .polygons)
+unfolding isAbsent tablesOf
+question-known t h l n d a = omega (arith, leb-false (length (C.told t h .tables .polygons)) n (question-passed (C.told t h) l n d a .known), polygons-told t h)
+
+-- and its stamp is that of the span: finding, stamp and part, from the corrected tables and the corrections alone
+pub question-told : (before : List (List ℕ)) (end : List ℕ) (since : List (List ℕ)) → Span before end since → (l : List ℕ) (n : ℕ) → decode l ≡ question n
+    → accepts (held before end since) l ≡ true
+    → step (held before end since) l .answer ≡ toldIn (correctedBy before since) n (stampOf (correctionsOf before since) n (getD (loadedBy before .polygons) n []))
+unfolding toldOf correctedBy C.told
+question-told before end since s l n d a =
+    let b : Building = C.told (loadedBy before) (correctionsOf before since) in
+    let e : held before end since ≡ holding b = held-told before end since s in
+    let h : n < length (loadedBy before .polygons) = question-known (loadedBy before) (correctionsOf before since) l n d (rw e at a) in
+    (rw e (question-answer b l n d (rw e at a)))
+    ∙ ap (toldIn (b .tables) n) (stamp-told (loadedBy before) (correctionsOf before since) n h)
