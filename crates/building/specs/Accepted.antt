@@ -7,7 +7,7 @@ use mathlib.Core.Option.{Option, none, some, Option·map, Option·some-ne-none}
 use lib.Dec.{ltb}
 use lib.IntN.{ℤ, pos}
 use lib.Signed.{leZ}
-use Rattle.whole.specs.Lists.{given, first, firstGiven, numberedFrom, numbered}
+use Rattle.whole.specs.Lists.{given, first, firstGiven, numberedFrom, numbered, tally}
 use Rattle.whole.specs.All as A
 use Rattle.whole.specs.All.{All, all-imp}
 use Rattle.polygon.specs.declared.Finding.{Finding}
@@ -19,7 +19,7 @@ use Rattle.shell.specs.Shell.{shape, shapeNumber}
 use Rattle.building.specs.declared.Verdict.{Verdict}
 use Rattle.building.specs.declared.Verdict.the-variants.{Accepted, Faulty, Unsound, Inward}
 use Rattle.building.specs.Tables.{Tables, Polygon}
-use Rattle.building.specs.Report.{shapeFault, findings, isFault, lowestFault, sixVolume, verdict}
+use Rattle.building.specs.Report.{checkNumber, shapeFault, findings, isFault, lowestFault, sixVolume, verdict}
 
 -- no polygon has a finding, no check of the whole fails, and the six-volume is above zero
 pub record NoneFails (t : Tables) : Type 0 where
@@ -58,16 +58,16 @@ rows-sound n (f ∷ fs) (A.more q a) = let ih : firstGiven (rows (suc n) fs) ≡
 -- what the row of the findings gives is never acceptance
 data OfFault : Option Verdict → Type 0 where
   no-fault : OfFault none
-  a-fault : (n : ℕ) (f : Finding) → OfFault (some (Faulty n f))
+  a-fault : (n : ℕ) (f : Finding) → isFault f ≡ true → OfFault (some (Faulty n f))
 
 rows-fault : (n : ℕ) (fs : List Finding) → OfFault (firstGiven (rows n fs))
 unfolding rows firstGiven given numberedFrom
 rows-fault n [] = no-fault
-rows-fault n (f ∷ fs) = go (isFault f) (rows-fault (suc n) fs)
+rows-fault n (f ∷ fs) = go (isFault f) refl (rows-fault (suc n) fs)
   where
-    go : (b : Bool) → OfFault (firstGiven (rows (suc n) fs)) → OfFault (firstGiven (given b (Faulty n f) ∷ rows (suc n) fs))
-    go true ih = a-fault n f
-    go false ih = ih
+    go : (b : Bool) → isFault f ≡ b → OfFault (firstGiven (rows (suc n) fs)) → OfFault (firstGiven (given b (Faulty n f) ∷ rows (suc n) fs))
+    go true q ih = a-fault n f q
+    go false q ih = ih
 
 accepts : Verdict → Bool
 accepts Accepted = true
@@ -90,7 +90,23 @@ unfolding first given accepts
 only-accepted no-fault s false false q e = (refl, is-whole s q, refl)
 only-accepted no-fault s false true q e = absurd (false≢true (ap accepts e))
 only-accepted no-fault s true b q e = absurd (false≢true (ap accepts e))
-only-accepted (a-fault n f) s g b q e = absurd (false≢true (ap accepts e))
+only-accepted (a-fault n f _) s g b q e = absurd (false≢true (ap accepts e))
+
+-- no other verdict has the number 0
+above-zero : (n : ℕ) → ltb 0 n ≡ true → n ≡ 0 → ⊥
+above-zero n t e = true≢false (sym t ∙ ap (ltb 0) e)
+
+zero-only : {o : Option Verdict} → OfFault o → (s : Shape) (f b : Bool) → ltb 0 (shapeNumber s) ≡ f → checkNumber (first Accepted (o ∷ given f (Unsound s) ∷ given b Inward ∷ [])) ≡ 0
+    → first Accepted (o ∷ given f (Unsound s) ∷ given b Inward ∷ []) ≡ Accepted
+unfolding first given checkNumber isFault
+zero-only no-fault s false false q e = refl
+zero-only no-fault s false true q e = absurd (above-zero 13 refl e)
+zero-only no-fault s true b q e = absurd (above-zero (shapeNumber s) q e)
+zero-only (a-fault n f t) s g b q e = absurd (above-zero (findingNumber f) t e)
+
+pub zero-accepted : (t : Tables) → checkNumber (verdict t) ≡ 0 → verdict t ≡ Accepted
+unfolding verdict lowestFault shapeFault numbered rows findings
+zero-accepted t e = zero-only (rows-fault 0 (findings t)) (shape (t .polygons)) (ltb 0 (shapeNumber (shape (t .polygons)))) (leZ (sixVolume t) (pos 0)) refl e
 
 from-map : {A B : Type 0} (f : A → B) (P : B → Type 0) (l : List A) → All P (map f l) → All (λ (x : A). P (f x)) l
 from-map f P [] A.none = A.none
@@ -116,3 +132,12 @@ unfolding verdict lowestFault shapeFault shapeNumber numbered rows findings firs
 none-fails-accepted t n =
     let a : firstGiven (rows 0 (findings t)) ≡ none = rows-sound 0 (findings t) (to-map (finding (t .tolerance) (t .points)) (λ f. f ≡ Sound) (t .polygons) (n .each)) in
     rw (a, n .closed, n .outward)
+
+-- and then no polygon is counted
+pub none-counted : (t : Tables) → NoneFails t → tally isFault (findings t) ≡ 0
+unfolding findings tally isFault findingNumber
+none-counted t n = go (t .polygons) (n .each)
+  where
+    go : (rs : List Polygon) → All (λ (r : Polygon). finding (t .tolerance) (t .points) r ≡ Sound) rs → tally isFault (map (finding (t .tolerance) (t .points)) rs) ≡ 0
+    go [] A.none = refl
+    go (r ∷ rs) (A.more q a) = let ih : tally isFault (map (finding (t .tolerance) (t .points)) rs) ≡ 0 = go rs a in rw q ih

@@ -1,23 +1,49 @@
--- Any two results that a public function's statement allows agree.
--- By `agree` of crate whole, since their statements are equations: is_far, stands_else, place, close_ring, verdict_of, faults_of,
--- six_volume, check_number, element_a, element_b. Here: check_all, move_point and turn_polygon, every word of the arrays and the scalars.
-use Prim.Native.Nat.{ℕ, _<_}
+-- For each public function: any two results that its statement allows are one; of check_all, move_point and turn_polygon that is every
+-- word of the arrays and the scalars.
+use Prim.Native.Nat.{ℕ, _+_, _<_}
 use native.Mathlib.Omega.{arith}
 use mathlib.Core.Path.{_≡_, sym, ap, ap₂, _∙_, subst}
 use mathlib.Core.Bool.{true≢false}
 use mathlib.Core.List.{List}
 use borrow.Author.Tests.{ltb-true, ltb-false}
 use lib.Dec.{ltb}
+use lib.ListN.{set, take}
 use lib.IntN.{ℤ, pos}
+use Rattle.whole.specs.Lists.{tally, sumOf}
 use Rattle.whole.specs.Agree.{agree}
 use Rattle.polygon.specs.Space.{Point}
 use Rattle.shell.specs.Agree.{built-agree}
 use Rattle.building.specs.declared.Scalars.{Scalars}
+use Rattle.building.specs.declared.Verdict.{Verdict}
+use Rattle.building.specs.Tables.{Tables}
+use Rattle.building.specs.Report.{verdict, checkNumber, elementA, elementB}
 use Rattle.building.specs.Lists.{cases, upto}
 use Rattle.building.specs.Holds.{Arrays}
 use Rattle.building.specs.Steps.{refind, repart}
 use Rattle.building.specs.Check.{EarlyAt}
 use Rattle.building.specs.Writes.{checked, MoveWrites, TurnWrites, TableWrites, LoadWrites}
+
+pub close-ring-agrees : (starts : List ℕ) (n end : ℕ) (s₁ s₂ : List ℕ) → s₁ ≡ set starts (n + 1) end → s₂ ≡ set starts (n + 1) end → s₁ ≡ s₂
+close-ring-agrees starts n end s₁ s₂ = agree
+
+pub verdict-of-agrees : (t : Tables) (r₁ r₂ : Verdict) → r₁ ≡ verdict t → r₂ ≡ verdict t → r₁ ≡ r₂
+verdict-of-agrees t r₁ r₂ = agree
+
+pub faults-of-agrees : (findings : List ℕ) (n r₁ r₂ : ℕ) → r₁ ≡ tally (ltb 0) (take n findings) → r₂ ≡ tally (ltb 0) (take n findings) → r₁ ≡ r₂
+faults-of-agrees findings n r₁ r₂ = agree
+
+pub six-volume-agrees : (parts : List ℤ) (n : ℕ) (r₁ r₂ : ℤ) → r₁ ≡ sumOf (λ z. z) (take n parts) → r₂ ≡ sumOf (λ z. z) (take n parts) → r₁ ≡ r₂
+six-volume-agrees parts n r₁ r₂ = agree
+
+module _ (v : Verdict) (r₁ r₂ : ℕ) where
+  pub check-number-agrees : r₁ ≡ checkNumber v → r₂ ≡ checkNumber v → r₁ ≡ r₂
+  check-number-agrees = agree
+
+  pub element-a-agrees : r₁ ≡ elementA v → r₂ ≡ elementA v → r₁ ≡ r₂
+  element-a-agrees = agree
+
+  pub element-b-agrees : r₁ ≡ elementB v → r₂ ≡ elementB v → r₁ ≡ r₂
+  element-b-agrees = agree
 
 module _ (a : Arrays) (s : Scalars) where
   module _ {number n : ℕ} {p : Point} {points' points'' : List ℤ} {stamps' stamps'' findings' findings'' : List ℕ} {parts' parts'' : List ℤ} {r r' : Scalars}

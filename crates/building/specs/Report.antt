@@ -30,12 +30,14 @@ elementA (Faulty a f) = a
 elementA (Unsound s) = shapeA s
 elementA Inward = 0
 
+-- its second element: the larger end of an edge, and 0 where the table names none
 unfoldable pub elementB : Verdict → ℕ
 elementB Accepted = 0
 elementB (Faulty a f) = 0
 elementB (Unsound s) = shapeB s
 elementB Inward = 0
 
+-- "each polygon's own finding"
 unfoldable pub findings : Tables → List Finding
 findings t = map (finding (t .tolerance) (t .points)) (t .polygons)
 
@@ -64,6 +66,7 @@ verdict t =
     given (leZ (sixVolume t) (pos 0)) Inward ∷
     [])
 
+-- what a report tells: the check with its elements, the number of polygons with a finding, the six-volume
 pub record Report : Type 0 where
   pub check : Verdict
   pub faults : ℕ

@@ -24,8 +24,9 @@ use Rattle.shell.specs.Shell.{notReached, notLinked, byEnds, shape, shapeNumber
 use Rattle.building.specs.declared.Verdict.{Verdict}
 use Rattle.building.specs.declared.Verdict.the-variants.{Accepted, Faulty, Unsound, Inward}
 use Rattle.building.specs.Tables.{Tables, Polygon}
-use Rattle.building.specs.Report.{shapeFault, findings, isFault, lowestFault, sixVolume, verdict}
-use Rattle.building.specs.Accepted.{NoneFails, accepted-none-fails, none-fails-accepted}
+use Rattle.building.specs.Report.{checkNumber, shapeFault, findings, isFault, lowestFault, sixVolume, verdict}
+use Rattle.building.specs.Accepted.{NoneFails, accepted-none-fails, none-fails-accepted, zero-accepted}
+use Rattle.building.specs.Accepted as Acc
 
 -- a polygon that fails none of checks 01 to 06
 pub record Passes (tolerance : ℕ) (points : List Point) (ring : Polygon) : Type 0 where
@@ -113,6 +114,13 @@ pub none-accepted : (t : Tables) → NoneOfThirteen t → verdict t ≡ Accepted
 none-accepted t n =
     none-fails-accepted t
     (record { each = all-imp (λ r q. passes-sound (t .tolerance) (t .points) r q) (n .polygons-pass); closed = manifold-whole (t .polygons) (n .rings-pass); outward = n .not-0D })
+
+-- "Check 00 with 0, 0 is acceptance": no other verdict is so numbered
+pub zero-none : (t : Tables) → checkNumber (verdict t) ≡ 0 → NoneOfThirteen t
+zero-none t e = accepted-none t (zero-accepted t e)
+
+pub none-counted : (t : Tables) → NoneOfThirteen t → tally isFault (findings t) ≡ 0
+none-counted t n = Acc.none-counted t (accepted-none-fails t (none-accepted t n))
 
 -- ---- "otherwise the first failing one is reported with its element"
 

@@ -1,13 +1,18 @@
 -- The three acceptance demands, in the architect's order and words, as theorems about the definitions.
 use Prim.Native.Nat.{ℕ, _*_, _≤_, _<_}
+use native.Mathlib.Omega.{arith}
 use mathlib.Core.Path.{_≡_, refl, sym, ap, _∙_, subst}
 use mathlib.Core.Bool.{Bool, true, false}
 use mathlib.Core.List.{List, [], _∷_, _++_}
+use mathlib.Core.Option.{none, some}
+use lib.Dec.{ltb}
+use lib.Signed.{leZ}
 use lib.ListN.{length, drop, getD}
 use lib.IntN.{ℤ, pos, negsuc}
 use Rattle.whole.specs.Lists.{tally}
 use Rattle.whole.specs.All.{All}
-use Rattle.frame.specs.Frame.{Frame, move, turn, question, decode}
+use Rattle.frame.specs.Frame.{Frame, end-of-load, move, turn, question, decode}
+use Rattle.frame.specs.Encode.{encode}
 use Rattle.frame.specs.Lines.{lines, ended, joined}
 use Rattle.frame.specs.Answer.{plain, reported, told}
 use Rattle.polygon.specs.Ring.{finding, findingNumber, part}
@@ -15,8 +20,11 @@ use Rattle.polygon.specs.declared.Finding.the-variants.{Sound}
 use Rattle.building.specs.Tables.{Tables, Building, Polygon}
 use Rattle.building.specs.Report.{report, verdict, checkNumber, elementA, elementB, isFault, findings, sixVolume}
 use Rattle.building.specs.declared.Verdict.{Verdict}
-use Rattle.building.specs.declared.Verdict.the-variants.{Accepted, Faulty}
-use Rattle.building.specs.Thirteen.{NoneOfThirteen, accepted-none, none-accepted, named-polygon}
+use Rattle.building.specs.declared.Verdict.the-variants.{Accepted, Faulty, Unsound, Inward}
+use Rattle.shell.specs.declared.Shape.the-variants.{Few, Once, Often, Alike, Apart, Unlinked}
+use Rattle.shell.specs.Edges.{smaller, larger, usedOnce, usedOften, usedAlike}
+use Rattle.shell.specs.Shell.{notReached, notLinked}
+use Rattle.building.specs.Thirteen.{NoneOfThirteen, accepted-none, none-accepted, zero-none, none-counted, named-polygon}
 use Rattle.building.specs.Thirteen as T
 use Rattle.building.specs.Corrections.{Correction, stampOf, lastNumber}
 use Rattle.checker.specs.declared.Refusal.{Refusal}
@@ -25,11 +33,12 @@ use Rattle.checker.specs.Service.{State, nothing, holding, tablesOf, bui
 use Rattle.checker.specs.Stream.{Served, wholeRefusal, served, answers}
 use Rattle.checker.specs.Refusals.{accepts, refused-line, after, struck, answersTo, acceptedAnswers, struck-stream}
 use Rattle.checker.specs.Fresh.{loadLines, freshReport, isCorrection}
-use Rattle.checker.specs.Span.{Span, loadedBy, correctionsOf, correctedBy, held, held-tables, stamp-is, correction-fresh, freshHeld, SameButStamp, question-fresh, Numbered, late-correction, end-reports, toldIn, question-told}
+use Rattle.checker.specs.Span.{Span, loadedBy, correctionsOf, correctedBy, held, held-tables, stamp-is, correction-fresh, correction-report, corrected-loadable, freshHeld, SameButStamp, question-fresh, Numbered, late-correction, end-reports, toldIn, question-told}
 use Rattle.checker.specs.Short.{step-short}
 use Rattle.checker.specs.Room as R
 use Rattle.checker.specs.Stream.{run, Answers}
-use Rattle.checker.specs.Entry.{Stands, answer-agrees, freshStream, fresh-answers, entry-bytes, entry-refused, entry-line}
+use Rattle.checker.specs.Entry.{Stands, answer-agrees, freshStream, fresh-lines, fresh-answers, fresh-few, fresh-short, entry-bytes, entry-refused, entry-line}
+use Rattle.checker.specs.Strike.{Left, left-of}
 
 -- ---- 1. "Every sequence of bytes gets a fixed answer."
 
@@ -83,11 +92,47 @@ accepted-only = accepted-none
 pub accepted-always : (t : Tables) → NoneOfThirteen t → verdict t ≡ Accepted
 accepted-always = none-accepted
 
--- "otherwise the first failing one is reported with its element": the lowest polygon with a finding (07 to 0D: Thirteen, named-07 to named-0D)
+-- "Check 00 with 0, 0 is acceptance": whoever reads 00 has a building that fails none, and such a building is so reported
+pub zero-means : (t : Tables) → checkNumber (verdict t) ≡ 0 → NoneOfThirteen t
+zero-means = zero-none
+
+pub accepted-report : (t : Tables) → NoneOfThirteen t → reportOf t ≡ reported 0 0 0 0 (sixVolume t)
+unfolding checkNumber elementA elementB
+accepted-report t n = reports t ∙ (rw (accepted-always t n, none-counted t n))
+
+-- "otherwise the first failing one is reported with its element": the lowest polygon with a finding, with the first of 01 to 06 that fails
 pub lowest-polygon : (t : Tables) (done : List Polygon) (ring : Polygon) (rest : List Polygon) → t .polygons ≡ done ++ ring ∷ rest
     → All (λ (r : Polygon). finding (t .tolerance) (t .points) r ≡ Sound) done → isFault (finding (t .tolerance) (t .points) ring) ≡ true
     → verdict t ≡ Faulty (length done) (finding (t .tolerance) (t .points) ring)
 lowest-polygon = named-polygon
+
+-- and where no polygon has a finding, each of 07 to 0D where none before it fails
+module _ (t : Tables) (each : All (λ (r : Polygon). finding (t .tolerance) (t .points) r ≡ Sound) (t .polygons)) where
+  pub first-07 : ltb (length (t .polygons)) 4 ≡ true → verdict t ≡ Unsound (Few (length (t .polygons)))
+  first-07 = T.named-07 t each (t .polygons) refl
+
+  module _ (not-07 : ltb (length (t .polygons)) 4 ≡ false) where
+    pub first-08 : (e : ℕ) → usedOnce (t .polygons) ≡ some e → verdict t ≡ Unsound (Once (smaller e) (larger e))
+    first-08 = T.named-08 t each (t .polygons) refl not-07
+
+    module _ (not-08 : usedOnce (t .polygons) ≡ none) where
+      pub first-09 : (e : ℕ) → usedOften (t .polygons) ≡ some e → verdict t ≡ Unsound (Often (smaller e) (larger e))
+      first-09 = T.named-09 t each (t .polygons) refl not-07 not-08
+
+      module _ (not-09 : usedOften (t .polygons) ≡ none) where
+        pub first-0A : (e : ℕ) → usedAlike (t .polygons) ≡ some e → verdict t ≡ Unsound (Alike (smaller e) (larger e))
+        first-0A = T.named-0A t each (t .polygons) refl not-07 not-08 not-09
+
+        module _ (not-0A : usedAlike (t .polygons) ≡ none) where
+          pub first-0B : (p : ℕ) → notReached (t .polygons) ≡ some p → verdict t ≡ Unsound (Apart p)
+          first-0B = T.named-0B t each (t .polygons) refl not-07 not-08 not-09 not-0A
+
+          module _ (not-0B : notReached (t .polygons) ≡ none) where
+            pub first-0C : (v : ℕ) → notLinked (t .polygons) ≡ some v → verdict t ≡ Unsound (Unlinked v)
+            first-0C = T.named-0C t each (t .polygons) refl not-07 not-08 not-09 not-0A not-0B
+
+            pub first-0D : notLinked (t .polygons) ≡ none → leZ (sixVolume t) (pos 0) ≡ true → verdict t ≡ Inward
+            first-0D = T.named-0D t each (t .polygons) refl not-07 not-08 not-09 not-0A not-0B
 
 -- ---- 3. From an accepted end of load until the next accepted begin
 
@@ -100,6 +145,11 @@ module _ (before : List (List ℕ)) (end : List ℕ) (since : List (List ℕ)) (
   pub same-report : (l : List ℕ) → accepts (held before end since) l ≡ true → isCorrection (decode l) ≡ true
       → step (held before end since) l .answer ≡ freshReport (correctedBy before (since ++ (l ∷ [])))
   same-report l = correction-fresh before end since l s
+
+  -- and that is the report of demand 2 on the corrected tables
+  pub told-report : (l : List ℕ) → accepts (held before end since) l ≡ true → isCorrection (decode l) ≡ true
+      → step (held before end since) l .answer ≡ reportOf (correctedBy before (since ++ (l ∷ [])))
+  told-report l = correction-report before end since l s
 
   -- "and so do each polygon's own finding and volume part"
   pub same-polygon : (l : List ℕ) (n : ℕ) → decode l ≡ question n → accepts (held before end since) l ≡ true
@@ -114,7 +164,10 @@ module _ (before : List (List ℕ)) (end : List ℕ) (since : List (List ℕ)) (
   pub late-refused : (l : List ℕ) (number : ℕ) → Numbered (decode l) number → number ≤ lastNumber (correctionsOf before since) → refusal (held before end since) (decode l) ≡ Late
   late-refused = late-correction before end since s
 
--- "and striking out all refused frames changes no other answer."
+-- "and striking out all refused frames changes no other answer." There always is such a stream, within the bounds that the stream keeps.
+pub struck-out : (stream : List ℕ) → Left stream
+struck-out = left-of
+
 pub strike-out : (stream left : List ℕ) → lines left ≡ struck nothing (lines stream) → answers left ≡ joined (acceptedAnswers nothing (lines stream))
 strike-out = struck-stream
 
@@ -160,6 +213,10 @@ module _ (stream room : List ℕ) (code : ℤ) (room′ : List ℕ) (returned : 
       pub code-correction : accepts (held before end since) l ≡ true → isCorrection (decode l) ≡ true → Stands (before ++ end ∷ since) (freshReport (correctedBy before (since ++ (l ∷ [])))) room′
       code-correction t k = subst (λ (q : List ℕ). Stands (before ++ end ∷ since) q room′) (same-report before end since s l t k) here
 
+      -- and that is the report of demand 2 on the corrected tables;
+      pub code-corrected : accepts (held before end since) l ≡ true → isCorrection (decode l) ≡ true → Stands (before ++ end ∷ since) (reportOf (correctedBy before (since ++ (l ∷ [])))) room′
+      code-corrected t k = subst (λ (q : List ℕ). Stands (before ++ end ∷ since) q room′) (told-report before end since s l t k) here
+
       -- an accepted question with the finding and the part of the corrected tables, and the stamp that the span's corrections give;
       pub code-question : (n : ℕ) → decode l ≡ question n → accepts (held before end since) l ≡ true
           → Stands (before ++ end ∷ since) (toldIn (correctedBy before since) n (stampOf (correctionsOf before since) n (getD (loadedBy before .polygons) n []))) room′
@@ -170,12 +227,26 @@ module _ (stream room : List ℕ) (code : ℤ) (room′ : List ℕ) (returned : 
       unfolding step outcome refusalNumber
       code-late number k h = subst (λ (q : List ℕ). Stands (before ++ end ∷ since) q room′) (ap (λ (r : Refusal). outcome r (held before end since) (decode l) .answer) (late-refused before end since s l number k h)) here
 
--- A stream without its refused frames leaves the same answers to all the others, and no more.
-pub code-strike-out : (stream left room : List ℕ) (code : ℤ) (room′ : List ℕ) → Answers left room code room′ → length left ≤ 65535 → length (lines left) ≤ 1024 → 33 * length (lines left) ≤ length room
-    → lines left ≡ struck nothing (lines stream) → room′ ≡ joined (acceptedAnswers nothing (lines stream)) ++ drop (length (answers left)) room
-code-strike-out stream left room code room′ returned a b c e =
-    entry-bytes left room code room′ returned a b c .1 ∙ ap (λ (q : List ℕ). q ++ drop (length (answers left)) room) (strike-out stream left e)
+-- A stream without its refused frames leaves the same answers to all the others, and no more, in any room that was enough for the stream.
+pub code-strike-out : (stream room : List ℕ) (code : ℤ) (room′ : List ℕ) → length stream ≤ 65535 → length (lines stream) ≤ 1024 → 33 * length (lines stream) ≤ length room
+    → Answers (struck-out stream .left) room code room′ → room′ ≡ joined (acceptedAnswers nothing (lines stream)) ++ drop (length (answers (struck-out stream .left))) room
+code-strike-out stream room code room′ a b c returned =
+    let l = struck-out stream in
+    let few : 33 * length (lines (l .left)) ≤ length room = omega (arith, l .no-more) in
+    let short : length (l .left) ≤ 65535 = omega (arith, l .no-longer) in
+    let lean : length (lines (l .left)) ≤ 1024 = omega (arith, l .no-more) in
+    entry-bytes (l .left) room code room′ returned short lean few .1 ∙ ap (λ (q : List ℕ). q ++ drop (length (answers (l .left))) room) (strike-out stream (l .left) (l .its-lines))
 
--- the bytes of a fresh load, and what they are answered last
+-- The bytes of a fresh load of the corrected tables are a stream that is answered, and its last answer is the fresh report.
 pub fresh-load : (t : Tables) → answers (freshStream t) ≡ run nothing (loadLines t) ++ ended (freshReport t)
 fresh-load = fresh-answers
+
+pub code-fresh : (before : List (List ℕ)) (end : List ℕ) (since : List (List ℕ)) → Span before end since → (room : List ℕ) (code : ℤ) (room′ : List ℕ)
+    → Answers (freshStream (correctedBy before since)) room code room′ → 33 * 770 ≤ length room
+    → Stands (loadLines (correctedBy before since)) (freshReport (correctedBy before since)) room′
+unfolding freshReport
+code-fresh before end since s room code room′ returned h =
+    let t = correctedBy before since in
+    let ok = corrected-loadable before end since s in
+    let few : length (lines (freshStream t)) ≤ 770 = fresh-few t ok in
+    entry-line (freshStream t) room code room′ returned (omega (arith, fresh-short t ok)) (omega arith) (omega arith) (loadLines t) (encode end-of-load) [] (fresh-lines t)

@@ -1,19 +1,23 @@
 -- From lines to bytes: what the entry's statement says of one line of a stream, and a fresh load as bytes.
 use Prim.Native.Nat.{ℕ, zero, suc, _+_, _*_, _≤_, _<_}
+use native.Mathlib.Omega.{arith}
 use mathlib.Core.Path.{_≡_, refl, sym, ap, _∙_, subst}
 use mathlib.Core.Bool.{Bool, true, false}
 use mathlib.Core.List.{List, [], _∷_, _++_, map, append-assoc, append-nil}
-use lib.ListN.{length, drop}
+use lib.ListN.{length, drop, length-append}
 use lib.IntN.{ℤ, pos}
 use Rattle.whole.specs.Agree.{agree}
 use Rattle.whole.specs.All.{All, none, more, all-append}
 use Rattle.frame.specs.Lines.{lines, ended, joined}
-use Rattle.frame.specs.LineLaws.{NoFeed, lines-joined}
+use Rattle.frame.specs.LineLaws.{NoFeed, lines-joined, length-joined}
+use Rattle.frame.specs.Hex.{digits, bits32}
+use Rattle.frame.specs.RoundTrip.{length-digits, length-fourEach}
 use Rattle.frame.specs.Frame.{Frame, begin, point, polygon, end-of-load}
-use Rattle.frame.specs.Encode.{encode}
+use Rattle.frame.specs.Encode.{encode, eight, fourEach}
 use Rattle.frame.specs.Written.{encode-no-feed}
 use Rattle.polygon.specs.Space.{Point}
-use Rattle.building.specs.Tables.{Tables, Polygon}
+use Rattle.building.specs.Tables.{Tables, Polygon, entries}
+use Rattle.building.specs.Loadable.{Loadable}
 use Rattle.checker.specs.Service.{State, nothing, step}
 use Rattle.checker.specs.Stream.{Served, run, answers, served, Answers}
 use Rattle.checker.specs.Refusals.{after}
@@ -69,6 +73,80 @@ fresh-lines t =
 pub fresh-answers : (t : Tables) → answers (freshStream t) ≡ run nothing (loadLines t) ++ ended (freshReport t)
 unfolding freshReport
 fresh-answers t = answers-last (freshStream t) (loadLines t) (encode end-of-load) (fresh-lines t)
+
+-- ---- and it is a stream that is not refused as a whole
+
+length-point : (p : Point) → length (pointLine p) ≡ 26
+unfolding pointLine encode eight
+length-point p =
+    let x : length (eight (p .x)) ≡ 8 = length-digits 8 (bits32 (p .x)) in
+    let y : length (eight (p .y)) ≡ 8 = length-digits 8 (bits32 (p .y)) in
+    let z : length (eight (p .z)) ≡ 8 = length-digits 8 (bits32 (p .z)) in
+    omega (arith, length-append (digits 2 2) (eight (p .x) ++ (eight (p .y) ++ eight (p .z))), length-digits 2 2, length-append (eight (p .x)) (eight (p .y) ++ eight (p .z)), length-append (eight (p .y)) (eight (p .z)))
+
+length-polygon : (r : Polygon) → length (polygonLine r) ≡ 2 + 4 * length r
+unfolding polygonLine encode
+length-polygon r = omega (arith, length-append (digits 2 3) (fourEach r), length-digits 2 3, length-fourEach r)
+
+joined-append : (ls ms : List (List ℕ)) → length (joined (ls ++ ms)) ≡ length (joined ls) + length (joined ms)
+joined-append [] ms = unfold joined in (omega arith)
+joined-append (l ∷ ls) ms = omega (arith, length-joined l (ls ++ ms), length-joined l ls, joined-append ls ms)
+
+points-bytes : (ps : List Point) → length (joined (map pointLine ps)) ≡ 27 * length ps
+points-bytes [] = unfold joined in refl
+points-bytes (p ∷ ps) = omega (arith, length-joined (pointLine p) (map pointLine ps), length-point p, points-bytes ps)
+
+polygons-bytes : (rs : List Polygon) → length (joined (map polygonLine rs)) ≡ 3 * length rs + 4 * entries rs
+unfolding entries
+polygons-bytes [] = unfold joined in refl
+polygons-bytes (r ∷ rs) = omega (arith, length-joined (polygonLine r) (map polygonLine rs), length-polygon r, polygons-bytes rs)
+
+length-begin : (t : ℕ) → length (encode (begin t)) ≡ 6
+unfolding encode
+length-begin t = length-append (digits 2 1) (digits 4 t) ∙ (rw (length-digits 2 1, length-digits 4 t))
+
+length-end : length (encode end-of-load) ≡ 2
+unfolding encode
+length-end = length-digits 2 4
+
+length-map : {A B : Type 0} (f : A → B) (l : List A) → length (map f l) ≡ length l
+length-map f [] = refl
+length-map f (x ∷ l) = ap suc (length-map f l)
+
+module _ (t : Tables) (ok : Loadable t) where
+  pub fresh-few : length (lines (freshStream t)) ≤ 770
+  unfolding loadLines
+  fresh-few =
+      omega (
+        arith,
+        ap length (fresh-lines t),
+        length-append (loadLines t) (encode end-of-load ∷ []),
+        length-append (map pointLine (t .points)) (map polygonLine (t .polygons)),
+        length-map pointLine (t .points),
+        length-map polygonLine (t .polygons),
+        ok .points-few,
+        ok .polygons-few,
+      )
+
+  pub fresh-short : length (freshStream t) ≤ 18698
+  unfolding freshStream loadLines
+  fresh-short =
+      let e : length (joined []) ≡ 0 = unfold joined in refl in
+      omega (
+        arith,
+        e,
+        joined-append (loadLines t) (encode end-of-load ∷ []),
+        length-joined (encode (begin (t .tolerance))) (map pointLine (t .points) ++ map polygonLine (t .polygons)),
+        length-begin (t .tolerance),
+        joined-append (map pointLine (t .points)) (map polygonLine (t .polygons)),
+        points-bytes (t .points),
+        polygons-bytes (t .polygons),
+        length-joined (encode end-of-load) [],
+        length-end,
+        ok .points-few,
+        ok .polygons-few,
+        ok .entries-few,
+      )
 
 -- ---- what the entry left in the room
 

@@ -24,7 +24,7 @@ use Rattle.checker.specs.Service.{State, nothing, loading, holding, refu
 use Rattle.checker.specs.Refusals.{isAccepted, accepts, after}
 use Rattle.checker.specs.History.{isBegin, NoBegin, history, accepted-keeps, after-told}
 use Rattle.checker.specs.Handlers.{of-move, of-turn}
-use Rattle.checker.specs.Fresh.{Passed, passed, passes, Sound, idle, hold, after-sound, held-loadable, accepted-line, after-append, loadLines, load-brings, end-holds, freshReport, isCorrection, correction-reports}
+use Rattle.checker.specs.Fresh.{Passed, passed, passes, Sound, idle, hold, after-sound, held-loadable, accepted-line, after-append, loadLines, load-brings, end-holds, freshReport, fresh-is, isCorrection, correction-reports}
 
 -- the tables that a load of these lines has brought about
 unfoldable pub loadedBy : List (List ℕ) → Tables
@@ -121,6 +121,11 @@ module _ (before : List (List ℕ)) (end : List ℕ) (since : List (List ℕ)) (
       correction-reports (held before end since) l (unfold held in after-sound nothing (before ++ end ∷ since) idle) a c
       ∙ ap (λ (st : State). freshReport (tablesOf st)) next-held
       ∙ ap freshReport (held-tables before end (since ++ (l ∷ [])) (span-more c))
+
+  -- which is the report of the corrected tables
+  pub correction-report : accepts (held before end since) l ≡ true → isCorrection (decode l) ≡ true
+      → step (held before end since) l .answer ≡ reportOf (correctedBy before (since ++ (l ∷ [])))
+  correction-report a c = correction-fresh a c ∙ fresh-is (correctedBy before (since ++ (l ∷ []))) (corrected-loadable before end (since ++ (l ∷ [])) (span-more c))
 
 -- ---- late corrections
 

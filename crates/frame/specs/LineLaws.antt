@@ -5,9 +5,9 @@ use native.Mathlib.Numerals.{add-one}
 use mathlib.Core.Path.{_≡_, refl, ap, _∙_}
 use mathlib.Core.Bool.{Bool, true, false, cond}
 use mathlib.Core.List.{List, [], _∷_, _++_}
-use borrow.Author.Tests.{eq-eqb, ne-eqb}
+use borrow.Author.Tests.{eq-eqb, ne-eqb, eqb-false}
 use lib.Dec.{eqb}
-use lib.ListN.{length, take, drop, getD, length-drop, drop-of-length-le}
+use lib.ListN.{length, take, drop, getD, length-append, length-drop, drop-of-length-le}
 use lib.Seq.{drop-cons, drop-drop}
 use Rattle.whole.specs.All.{All, none, more}
 use Rattle.frame.specs.Lines.{onFirst, putByte, lines, ended, joined}
@@ -195,6 +195,40 @@ pub lines-joined : (ls : List (List ℕ)) → All NoFeed ls → lines (joined ls
 unfolding lines joined
 lines-joined [] none = refl
 lines-joined (l ∷ ls) (more h hs) = lines-ended l (joined ls) h ∙ ap (λ (k : List (List ℕ)). l ∷ k) (lines-joined ls hs)
+
+-- the lines of a stream hold no line feed
+first-no-feed : (b : ℕ) (ls : List (List ℕ)) → (b ≡ 10 → ⊥) → All NoFeed ls → All NoFeed (onFirst b ls)
+unfolding onFirst
+first-no-feed b [] n none = more (more n none) none
+first-no-feed b (l ∷ ls) n (more h hs) = more (more n h) hs
+
+pub lines-no-feed : (s : List ℕ) → All NoFeed (lines s)
+unfolding lines putByte
+lines-no-feed [] = none
+lines-no-feed (b ∷ s) = go (eqb b 10) refl (lines-no-feed s)
+  where
+    go : (c : Bool) → eqb b 10 ≡ c → All NoFeed (lines s) → All NoFeed (putByte c b (lines s))
+    go true e h = more none h
+    go false e h = first-no-feed b (lines s) (eqb-false b 10 e) h
+
+-- written one after another they take at most one byte more: the last line feed, if the stream has none
+pub length-ended : (l : List ℕ) → length (ended l) ≡ suc (length l)
+unfolding ended
+length-ended l = length-append l (10 ∷ []) ∙ add-one (length l)
+
+pub length-joined : (l : List ℕ) (ls : List (List ℕ)) → length (joined (l ∷ ls)) ≡ suc (length l) + length (joined ls)
+unfolding joined
+length-joined l ls = length-append (ended l) (joined ls) ∙ ap (λ (n : ℕ). n + length (joined ls)) (length-ended l)
+
+pub joined-short : (s : List ℕ) → length (joined (lines s)) ≤ length s + 1
+unfolding lines putByte onFirst joined ended
+joined-short [] = omega arith
+joined-short (b ∷ s) = go (eqb b 10) (lines s) (joined-short s)
+  where
+    go : (c : Bool) (ls : List (List ℕ)) → length (joined ls) ≤ length s + 1 → length (joined (putByte c b ls)) ≤ length (b ∷ s) + 1
+    go true ls h = omega (arith, length-joined [] ls)
+    go false [] h = omega arith
+    go false (l ∷ ls) h = omega (arith, length-joined (b ∷ l) ls, length-joined l ls)
 
 -- ---- for a loop over the stream
 

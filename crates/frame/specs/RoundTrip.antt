@@ -178,7 +178,7 @@ pub decode-question : (n : ℕ) → n < 65536 → decode (encode (question n)) �
 unfolding encode hex-computes kindNamed kindOf fits filled unsigned
 decode-question n h = decode-encoded (question n) refl ∙ ap question (number-digits 4 n h)
 
-length-fourEach : (l : List ℕ) → length (fourEach l) ≡ 4 * length l
+pub length-fourEach : (l : List ℕ) → length (fourEach l) ≡ 4 * length l
 unfolding fourEach
 length-fourEach [] = refl
 length-fourEach (n ∷ l) =

@@ -24,11 +24,22 @@ fn tell(r: i64, room: &[u8]) {
     }
 }
 
+// Whether the input has ended: a read that fails is no end, and of a part of a stream nothing is to be told.
+fn has_ended() -> bool {
+    let mut one = [0u8; 1];
+    libc::read(libc::STDIN_FILENO, &mut one) == 0
+}
+
 // The stream's room is one byte longer than the longest stream, so that a longer one is told from it.
 fn main() {
     let mut stream = [0u8; 65536];
     let mut room = [0u8; 33792];
     let n = io::read_full(libc::STDIN_FILENO, &mut stream);
+    if n < 65536 {
+        if !has_ended() {
+            return;
+        }
+    }
     let r = checker::checker_answer(&stream[..n], &mut room);
     tell(r, &room);
 }
