@@ -11,7 +11,7 @@ use Rattle.building.specs.Holds.{Arrays, heldTables, heldBuilding, Held,
 use Rattle.building.specs.Load.{tables-polygons}
 use Rattle.building.specs.Told.{kept-finding, kept-part}
 
--- what equals one thing is one thing: is_far, stands_else, place, close_ring, verdict_of, faults_of, six_volume, check_number, element_a, element_b
+-- what equals one thing is one thing: close_ring, verdict_of, faults_of, six_volume, check_number, element_a, element_b
 pub agree : {A : Type 0} {x y z : A} → x ≡ z → y ≡ z → x ≡ y
 agree p q = p ∙ sym q
 

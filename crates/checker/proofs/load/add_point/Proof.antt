@@ -6,7 +6,7 @@ use Rattle.checker.specs.Service.{refusal}
 use Rattle.checker.specs.Rows.{seen}
 use Rattle.checker.specs.Dids.{did-point, did-refused}
 use Rattle.checker.specs.Refusals.{isAccepted}
-use Rattle.building.specs.Holds.{point3, placed}
+use Rattle.places.specs.Points.{point3, placed}
 use Rattle.frame.specs.Frame.{point}
 use lib.IntN.{ℤ}
 use mathlib.Core.List.{List}
@@ -14,7 +14,7 @@ use mathlib.Core.Bool.{true}
 use lib.ListN.{take}
 use Rattle.polygon.specs.Held.{pointsOf}
 use Rattle.polygon.specs.Space.{Point}
-use Rattle.building.specs.Tables.{isFar, standsElse}
+use Rattle.places.specs.Points.{isFar, standsElse}
 use mir.Facts.{toZ-ofZ}
 use mathlib.Core.Path.{_≡_, refl, sym, ap, _∙_}
 use borrow.Author.Needs.{needs}
