@@ -10,7 +10,7 @@ use lib.Dec.{ltb, leb, eqb}
 use lib.ListN.{length, getD, take, drop, length-append, length-drop}
 use lib.IntN.{ℤ, pos}
 use Rattle.whole.specs.Lists.{tab, lastOf}
-use Rattle.whole.specs.Stores.{cases, upto, upto-done, length-upto, zeroed, zeroed-length}
+use Rattle.whole.specs.Stores.{cases, upto-done, length-upto, zeroed}
 use Rattle.polygon.specs.Ring.{isShort, isUnclosed, isRepeated, finding, findingNumber, part}
 use Rattle.polygon.specs.Held.{pointsOf}
 use Rattle.shell.specs.declared.Shape.{Shape}

@@ -1,7 +1,6 @@
 -- Laws of lists as arrays: a list told by its index, a part of a list, stores into one.
 use Prim.Native.Nat.{ℕ, zero, suc, _+_, _*_, _-_, _≤_, _<_}
 use mathlib.Core.Path.{_≡_, refl, sym, ap, ap₂, _∙_, subst}
-use mathlib.Core.Bool.{Bool, true, false}
 use mathlib.Core.List.{List, [], _∷_, _++_, map, append-assoc, append-nil, reverse, reverse-append}
 use native.Mathlib.Omega.{arith}
 use native.Mathlib.Numerals.{add-one}

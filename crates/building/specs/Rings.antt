@@ -2,13 +2,12 @@
 use Prim.Native.Nat.{ℕ, zero, suc, _+_, _-_, _≤_, _<_}
 use native.Mathlib.Omega.{arith}
 use mathlib.Core.Path.{_≡_, refl, sym, ap, _∙_, subst}
-use mathlib.Core.Bool.{Bool, true, false}
 use mathlib.Core.List.{List, [], _∷_, _++_, reverse, reverseAux}
 use borrow.Author.Tests.{ltb-true, ltb-false, eqb-true, eqb-false}
 use lib.Dec.{ltb, eqb}
 use lib.Arith.{lt-of-le-ne}
 use lib.ListN.{length, getD, take, drop, set, length-reverse}
-use lib.Seq.{sets, length-sets, getD-set-same, getD-set-other, set-out}
+use lib.Seq.{sets, length-sets}
 use lib.IntN.{ℤ}
 use Rattle.whole.specs.Lists.{tab, at}
 use Rattle.whole.specs.Stores.{cases, all-set}

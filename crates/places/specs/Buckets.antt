@@ -11,7 +11,7 @@ use mir.Val.{SFits, ofZ, toZ}
 use Rattle.whole.specs.Size.{Small, small-add, small-fits, small-back, back-small}
 use Rattle.polygon.specs.Space.{Point}
 use Rattle.places.specs.Points.{point3, isFar}
-use Rattle.places.specs.Near.{NearPlace, near-place, near-bits}
+use Rattle.places.specs.Near.{NearPlace, near-bits}
 
 -- a coordinate, from its bound on
 unfoldable pub lift : ℤ → ℕ

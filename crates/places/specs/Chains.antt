@@ -1,10 +1,10 @@
 -- While a load runs, the room of the edge table holds the points by their places: words 0 to 511 are the heads of chains, one to a
 -- bucket, and word 512 + i is the link of point i. A head or link is 0, or one more than the number of a point; each link names a lower
 -- point than its own, so that a chain ends.
-use Prim.Native.Nat.{ℕ, zero, suc, _+_, _*_, _≤_, _<_}
+use Prim.Native.Nat.{ℕ, zero, suc, _+_, _≤_, _<_}
 use native.Mathlib.Omega.{arith}
 use native.Mathlib.Numerals.{add-one}
-use mathlib.Core.Path.{_≡_, refl, sym, ap, _∙_, subst}
+use mathlib.Core.Path.{_≡_, refl, sym, ap, _∙_}
 use mathlib.Core.Bool.{Bool, true, false, cond, _||_, or-true}
 use mathlib.Core.List.{List, [], _∷_, _++_}
 use borrow.Author.Tests.{eq-eqb, ne-eqb, eqb-true, eqb-false, ltb-true, ltb-false}
@@ -16,7 +16,7 @@ use Rattle.whole.specs.Lists.{any}
 use Rattle.whole.specs.Stores.{cases, zeroed, zeroed-length, upto-done}
 use Rattle.polygon.specs.Space.{Point, origin, samePlace}
 use Rattle.polygon.specs.Held.{pointsOf, placeAt, pointsOf-at, pointsOf-length}
-use Rattle.places.specs.Points.{point3, stands, standsElse, placed}
+use Rattle.places.specs.Points.{stands, standsElse, placed}
 use Rattle.places.specs.Places.{same-place, stands-all}
 use Rattle.places.specs.Near.{placed-own, placed-other}
 use Rattle.places.specs.Buckets.{bucketOf, bucket-below}

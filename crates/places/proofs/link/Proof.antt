@@ -1,9 +1,8 @@
 -- `places::link` meets its contract: two stores.
-use Prim.Native.Nat.{ℕ, _+_, _<_}
+use Prim.Native.Nat.{ℕ, _+_}
 use native.Mathlib.Omega.{arith}
-use mathlib.Core.Path.{_≡_, ap}
+use mathlib.Core.Path.{ap}
 use lib.ListN.{getD, set}
-use Rattle.places.specs.Points.{point3}
 use Rattle.places.specs.Buckets.{told-below, told-bucket}
 use borrow.Author.Needs.{needs}
 use Rattle.places.proofs.link.Statement.{statement}
