@@ -36,6 +36,10 @@ pub record Chained (points : List ℤ) (table : List ℕ) (n : ℕ) : Type 0 whe
 abbrev pub linked : List ℕ → ℕ → Point → List ℕ
 linked table n p = set (set table (512 + n) (getD table (bucketOf p) 0)) (bucketOf p) (n + 1)
 
+-- the same, where a call tells the bucket
+pub linked-in : (table : List ℕ) (n : ℕ) (p : Point) (b : ℕ) → b ≡ bucketOf p → set (set table (512 + n) (getD table b 0)) b (n + 1) ≡ linked table n p
+linked-in table n p b e = ap (λ (j : ℕ). set (set table (512 + n) (getD table j 0)) j (n + 1)) e
+
 -- ---- the last of a bucket
 module _ (points : List ℤ) (b : ℕ) where
   last-here : (n : ℕ) → bucketOf (placeAt points n) ≡ b → lastBelow points b (suc n) ≡ suc n

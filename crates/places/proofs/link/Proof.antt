@@ -1,9 +1,8 @@
 -- `places::link` meets its contract: two stores.
-use Prim.Native.Nat.{ℕ, _+_}
 use native.Mathlib.Omega.{arith}
-use mathlib.Core.Path.{ap}
-use lib.ListN.{getD, set}
+use Rattle.places.specs.Points.{point3}
 use Rattle.places.specs.Buckets.{told-below, told-bucket}
+use Rattle.places.specs.Chains.{linked-in}
 use borrow.Author.Needs.{needs}
 use Rattle.places.proofs.link.Statement.{statement}
 use Rattle.places.proofs.link.Tie as tie
@@ -39,7 +38,7 @@ returns : tie.Need-returns
 returns c =
     let s = c .before .before in
     let a = s .args in
-    ap (λ (b : ℕ). set (set (a .table .now) (512 + a .n) (getD (a .table .now) b 0)) b (a .n + 1)) (told-bucket (a .x) (a .y) (a .z) (s .pre .1) (c .before .bucket .ensures))
+    linked-in (a .table .now) (a .n) (point3 (a .x) (a .y) (a .z)) (c .before .bucket .result) (told-bucket (a .x) (a .y) (a .z) (s .pre .1) (c .before .bucket .ensures))
 
 pub link-spec : {M : Type 1} → statement M
 link-spec =
