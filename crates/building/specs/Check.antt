@@ -10,6 +10,7 @@ use lib.Dec.{ltb, leb, eqb}
 use lib.ListN.{length, getD, take, drop, length-append, length-drop}
 use lib.IntN.{ℤ, pos}
 use Rattle.whole.specs.Lists.{tab, lastOf}
+use Rattle.whole.specs.Stores.{cases, upto-done, length-upto, zeroed}
 use Rattle.polygon.specs.Ring.{isShort, isUnclosed, isRepeated, finding, findingNumber, part}
 use Rattle.polygon.specs.Held.{pointsOf}
 use Rattle.shell.specs.declared.Shape.{Shape}
@@ -21,10 +22,10 @@ use Rattle.shell.specs.EdgedLaws.{edged-built}
 use Rattle.shell.specs.SoundLaws.{sound-ring}
 use Rattle.building.specs.declared.Scalars.{Scalars}
 use Rattle.building.specs.Tables.{loaded}
-use Rattle.building.specs.Lists.{cases, tab-ext, take-is-tab, map-tab, upto, upto-done, length-upto}
+use Rattle.building.specs.Lists.{tab-ext, take-is-tab, map-tab}
 use Rattle.building.specs.Findings.{isBroken, Early, early-broken, broken-early}
 use Rattle.building.specs.Holds.{Arrays, arrays, heldTables, heldBuilding, Loaded, Sizes, Found, Summed, Broken, Kept, Held, Did}
-use Rattle.building.specs.Steps.{numberAt, partAt, Checked, zeroed, zeroed-all, zeroed-length}
+use Rattle.building.specs.Steps.{numberAt, partAt, Checked, zeroed-all}
 
 -- ---- the lowest polygon that fails one of checks 01 to 03, or n
 abbrev pub isEarly : ℕ → Bool

@@ -1,12 +1,11 @@
 -- How the arrays and the scalars hold a building.
-use Prim.Native.Nat.{ℕ, _+_, _*_, _≤_, _<_}
+use Prim.Native.Nat.{ℕ, _≤_, _<_}
 use mathlib.Core.Path.{_≡_}
 use mathlib.Core.Bool.{Bool, true}
 use mathlib.Core.List.{List}
 use mathlib.Core.Logic.{_⊎_}
-use lib.ListN.{length, getD, take, set}
+use lib.ListN.{length, getD, take}
 use lib.IntN.{ℤ, pos}
-use Rattle.polygon.specs.Space.{Point}
 use Rattle.polygon.specs.Ring.{finding, findingNumber, part}
 use Rattle.polygon.specs.Held.{pointsOf, Coords}
 use Rattle.shell.specs.Held.{ringAt, rings, Starts, Entries}
@@ -14,13 +13,6 @@ use Rattle.shell.specs.Kept.{Edged}
 use Rattle.building.specs.declared.Scalars.{Scalars}
 use Rattle.building.specs.Tables.{Tables, Building}
 use Rattle.building.specs.Findings.{isBroken}
-
-abbrev pub point3 : ℤ → ℤ → ℤ → Point
-point3 x y z = record { x = x; y = y; z = z }
-
--- the flat table with point n at another place
-abbrev pub placed : List ℤ → ℕ → Point → List ℤ
-placed points n p = set (set (set points (3 * n) (p .x)) (3 * n + 1) (p .y)) (3 * n + 2) (p .z)
 
 -- the tables that the arrays and the scalars hold, in a load and after it
 unfoldable pub heldTables : List ℤ → List ℕ → List ℕ → Scalars → Tables

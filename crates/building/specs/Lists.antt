@@ -1,7 +1,6 @@
--- Laws of lists as arrays: a list told by its index, a part of a list, stores into one, every place below a number anew.
+-- Laws of lists as arrays: a list told by its index, a part of a list, stores into one.
 use Prim.Native.Nat.{ℕ, zero, suc, _+_, _*_, _-_, _≤_, _<_}
 use mathlib.Core.Path.{_≡_, refl, sym, ap, ap₂, _∙_, subst}
-use mathlib.Core.Bool.{Bool, true, false}
 use mathlib.Core.List.{List, [], _∷_, _++_, map, append-assoc, append-nil, reverse, reverse-append}
 use native.Mathlib.Omega.{arith}
 use native.Mathlib.Numerals.{add-one}
@@ -12,20 +11,12 @@ use borrow.Author.Tests.{ltb-true, ltb-false}
 use lib.ListN.{length, getD, take, drop, set, length-set, length-append, length-take, length-drop, length-reverse, List·getD-append}
 use lib.Seq.{sets, length-sets, sets-eq, drop-cons, getD-set-same, getD-set-other, take-at, drop-at, take-set-le, drop-set-lt, length-take-le, getD-take, getD-drop, take-append-seam, take-nil, take-suc, getD-at, set-at, set-append-left, set-comm, set-getD, ext-getD}
 use Rattle.whole.specs.Lists.{tab}
+use Rattle.whole.specs.Stores.{cases}
 use Rattle.shell.specs.Tabs.{length-tab, getD-tab}
 
 -- the elements from place a up to place e
 abbrev pub cut : {A : Type 0} → ℕ → ℕ → List A → List A
 cut a e l = take (e - a) (drop a l)
-
--- l, with f k of what stands at each place k below n in its stead
-unfoldable pub upto : {A : Type 0} → (ℕ → A → A) → A → List A → ℕ → List A
-upto f d l zero = l
-upto f d l (suc k) = set (upto f d l k) k (f k (getD l k d))
-
-pub cases : {X : Type 0} (b : Bool) → (b ≡ true → X) → (b ≡ false → X) → X
-cases true f g = f refl
-cases false f g = g refl
 
 module _ {A : Type 0} where
   -- ---- told by index
@@ -155,30 +146,6 @@ module _ {A : Type 0} where
       let one : cut i (suc i) l ≡ getD l i d ∷ [] = cut-cons i (suc i) l d (omega arith) (omega (arith, ltb-true i j t)) ∙ ap (λ (n : ℕ). getD l i d ∷ take n (drop (suc i) l)) z in
       rw e (ap (λ (r : List A). sets l i (reverse r)) one ∙ set-getD l i d))
       (λ t. let e : j - i ≡ 0 = omega (arith, ltb-false i j t) in rw e)
-
-  -- ---- every place below n anew
-  pub length-upto : (f : ℕ → A → A) (d : A) (l : List A) (n : ℕ) → length (upto f d l n) ≡ length l
-  unfolding upto
-  length-upto f d l zero = refl
-  length-upto f d l (suc n) = length-set (upto f d l n) n (f n (getD l n d)) ∙ length-upto f d l n
-
-  pub upto-rest : (f : ℕ → A → A) (d : A) (l : List A) (n p : ℕ) → n ≤ p → getD (upto f d l n) p d ≡ getD l p d
-  unfolding upto
-  upto-rest f d l zero p h = refl
-  upto-rest f d l (suc n) p h = getD-set-other (upto f d l n) n p (f n (getD l n d)) d (λ e. omega arith) ∙ upto-rest f d l n p (omega arith)
-
-  pub upto-done : (f : ℕ → A → A) (d : A) (l : List A) (n p : ℕ) → p < n → n ≤ length l → getD (upto f d l n) p d ≡ f p (getD l p d)
-  unfolding upto
-  upto-done f d l zero p h w = absurd (omega arith)
-  upto-done f d l (suc n) p h w =
-      cases (ltb p n)
-      (λ t. getD-set-other (upto f d l n) n p (f n (getD l n d)) d (λ e. omega (arith, ltb-true p n t)) ∙ upto-done f d l n p (ltb-true p n t) (omega arith))
-      (λ t. let e : p ≡ n = omega (arith, ltb-false p n t) in rw e (getD-set-same (upto f d l n) n (f n (getD l n d)) d (rw length-upto (omega arith))))
-
-  -- a turn of the loop that does it
-  pub upto-more : (f : ℕ → A → A) (d : A) (l : List A) (k : ℕ) → set (upto f d l k) k (f k (getD (upto f d l k) k d)) ≡ upto f d l (k + 1)
-  unfolding upto
-  upto-more f d l k = rw (add-one, upto-rest f d l k k (omega arith))
 
 pub map-tab : {A B : Type 0} (g : A → B) (f : ℕ → A) (n : ℕ) → map g (tab f n) ≡ tab (λ p. g (f p)) n
 unfolding tab

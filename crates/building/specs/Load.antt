@@ -12,17 +12,19 @@ use lib.Seq.{sets, length-sets, getD-set-same, getD-set-other, length-take-le, t
 use lib.IntN.{ℤ}
 use Rattle.whole.specs.Lists.{tab}
 use Rattle.whole.specs.All.{All, none, more}
+use Rattle.whole.specs.Stores.{cases}
 use Rattle.polygon.specs.Space.{Point}
 use Rattle.polygon.specs.Held.{pointsOf, pointsOf-length, Coords}
+use Rattle.places.specs.Points.{isFar, placed}
+use Rattle.places.specs.Near.{near-place, placed-points, placed-coords}
 use Rattle.shell.specs.declared.Shape.{Shape}
 use Rattle.shell.specs.Held.{ringAt, rings, Starts, Entries}
 use Rattle.building.specs.declared.Scalars.{Scalars}
-use Rattle.building.specs.Tables.{Polygon, Tables, begun, withPoint, withPolygon, isFar}
+use Rattle.building.specs.Tables.{Polygon, Tables, begun, withPoint, withPolygon}
 use Rattle.building.specs.Tables as T
 use Rattle.building.specs.Loadable.{entries-append}
-use Rattle.building.specs.Lists.{cases, tab-ext, cut-sets, cut-sets-past, getD-sets, getD-sets-before}
-use Rattle.building.specs.Holds.{placed, heldTables, Loaded}
-use Rattle.building.specs.Moved.{NearPlace, near-place, placed-points, placed-coords}
+use Rattle.building.specs.Lists.{tab-ext, cut-sets, cut-sets-past, getD-sets, getD-sets-before}
+use Rattle.building.specs.Holds.{heldTables, Loaded}
 use Rattle.building.specs.Rings.{Ring, ring-of, ring-length, rings-length}
 
 -- ---- how many there are

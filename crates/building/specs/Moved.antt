@@ -2,72 +2,25 @@
 use Prim.Native.Nat.{ℕ, zero, suc, _+_, _*_, _-_, _≤_, _<_}
 use native.Mathlib.Omega.{arith}
 use mathlib.Core.Path.{_≡_, refl, sym, ap, _∙_, subst}
-use mathlib.Core.Bool.{Bool, true, false, cond, _||_, true≢false}
+use mathlib.Core.Bool.{Bool, true, false, cond}
 use mathlib.Core.List.{List, [], _∷_}
-use borrow.Author.Tests.{ltb-false}
-use lib.Dec.{ltb}
-use lib.ListN.{length, getD, take, set, length-set}
+use lib.ListN.{length, getD, take}
 use lib.Seq.{take-set-lt, length-take-le, getD-take, ext-getD}
-use lib.IntN.{ℤ, pos, natAbs}
-use mir.Syntax.{w64}
-use mir.Val.{ofZ, toZ}
+use lib.IntN.{ℤ, pos}
 use Rattle.whole.specs.Lists.{lists, tab}
-use Rattle.whole.specs.Size.{Small, small-back}
+use Rattle.whole.specs.Stores.{upto, upto-done, length-upto}
 use Rattle.polygon.specs.Space.{Point}
 use Rattle.polygon.specs.Ring.{finding, findingNumber, part}
 use Rattle.polygon.specs.Kept.{finding-kept, part-kept}
-use Rattle.polygon.specs.Held.{pointsOf, Coords, pointsOf-set}
+use Rattle.polygon.specs.Held.{pointsOf}
+use Rattle.places.specs.Points.{placed}
+use Rattle.places.specs.Near.{NearPlace, placed-points, placed-coords}
 use Rattle.shell.specs.Held.{ringAt, rings}
 use Rattle.building.specs.declared.Scalars.{Scalars}
-use Rattle.building.specs.Tables.{isFar, stampUsers, moved}
+use Rattle.building.specs.Tables.{stampUsers, moved}
 use Rattle.shell.specs.Tabs.{length-tab, getD-tab}
-use Rattle.building.specs.Lists.{upto, upto-done, length-upto}
-use Rattle.building.specs.Holds.{point3, placed, Arrays, arrays, heldTables, heldBuilding, Loaded, Found, Summed, Kept, Held, Did}
-use Rattle.building.specs.Rings.{all-set}
+use Rattle.building.specs.Holds.{Arrays, arrays, heldTables, heldBuilding, Loaded, Found, Summed, Kept, Held, Did}
 use Rattle.building.specs.Steps.{numberAt, partAt, restamp, refind, repart, Looked}
-
--- ---- a place that is not far
-pub record NearPlace (p : Point) : Type 0 where
-  pub x : Small 100000 (p .x)
-  pub y : Small 100000 (p .y)
-  pub z : Small 100000 (p .z)
-
-pub near-place : (p : Point) → isFar p ≡ false → NearPlace p
-unfolding isFar
-near-place p e =
-    let n = none-of (ltb 100000 (natAbs (p .x))) (ltb 100000 (natAbs (p .y))) (ltb 100000 (natAbs (p .z))) e in
-    record {
-      x = record { small = ltb-false 100000 (natAbs (p .x)) (n .0) };
-      y = record { small = ltb-false 100000 (natAbs (p .y)) (n .1) };
-      z = record { small = ltb-false 100000 (natAbs (p .z)) (n .2) };
-    }
-  where
-    none-of : (s u r : Bool) → (s || u || r) ≡ false → (s ≡ false) × (u ≡ false) × (r ≡ false)
-    none-of false false false e = (refl, refl, refl)
-    none-of false false true e = absurd (true≢false e)
-    none-of false true r e = absurd (true≢false e)
-    none-of true u r e = absurd (true≢false e)
-
--- as the machine reads it
-pub near-bits : (x y z : ℤ) → isFar (point3 x y z) ≡ false → point3 (toZ w64 (ofZ w64 x)) (toZ w64 (ofZ w64 y)) (toZ w64 (ofZ w64 z)) ≡ point3 x y z
-near-bits x y z e i =
-    let n : NearPlace (point3 x y z) = near-place (point3 x y z) e in
-    point3 (small-back w64 tt (n .x) i) (small-back w64 tt (n .y) i) (small-back w64 tt (n .z) i)
-
--- ---- the flat table with a point at another place
-module _ (points : List ℤ) (n : ℕ) (p : Point) where
-  pub placed-points : 3 * n + 2 < length points → pointsOf (placed points n p) ≡ set (pointsOf points) n p
-  placed-points h = pointsOf-set points n (p .x) (p .y) (p .z) h
-
-  pub placed-coords : Coords points → NearPlace p → Coords (placed points n p)
-  placed-coords co near =
-      record {
-        room = length-set (set (set points (3 * n) (p .x)) (3 * n + 1) (p .y)) (3 * n + 2) (p .z) ∙ length-set (set points (3 * n) (p .x)) (3 * n + 1) (p .y) ∙ length-set points (3 * n) (p .x) ∙ co .room;
-        small = λ i.
-            all-set (λ (v : ℤ). Small 100000 v) (pos 0) (set (set points (3 * n) (p .x)) (3 * n + 1) (p .y)) (i + 1) (3 * n + 2) (p .z)
-            (all-set (λ (v : ℤ). Small 100000 v) (pos 0) (set points (3 * n) (p .x)) (i + 1) (3 * n + 1) (p .y)
-            (all-set (λ (v : ℤ). Small 100000 v) (pos 0) points (i + 1) (3 * n) (p .x) (λ j l. co .small j) (near .x)) (near .y)) (near .z) i (omega arith);
-      }
 
 -- ---- looked at again, or as it was
 again : {A : Type 0} (b : Bool) → {c : Bool} → c ≡ b → (new old : A) → (b ≡ false → old ≡ new) → cond c new old ≡ new

@@ -2,20 +2,20 @@
 use Prim.Native.Nat.{ℕ, zero, suc, _+_, _-_, _≤_, _<_}
 use native.Mathlib.Omega.{arith}
 use mathlib.Core.Path.{_≡_, refl, sym, ap, _∙_, subst}
-use mathlib.Core.Bool.{Bool, true, false}
 use mathlib.Core.List.{List, [], _∷_, _++_, reverse, reverseAux}
 use borrow.Author.Tests.{ltb-true, ltb-false, eqb-true, eqb-false}
 use lib.Dec.{ltb, eqb}
 use lib.Arith.{lt-of-le-ne}
 use lib.ListN.{length, getD, take, drop, set, length-reverse}
-use lib.Seq.{sets, length-sets, getD-set-same, getD-set-other, set-out}
+use lib.Seq.{sets, length-sets}
 use lib.IntN.{ℤ}
 use Rattle.whole.specs.Lists.{tab, at}
+use Rattle.whole.specs.Stores.{cases, all-set}
 use Rattle.polygon.specs.Held.{Coords, Known}
 use Rattle.shell.specs.Held.{ringAt, rings, Starts, Entries}
 use Rattle.building.specs.declared.Scalars.{Scalars}
 use Rattle.shell.specs.Tabs.{getD-tab, length-tab}
-use Rattle.building.specs.Lists.{cases, cut, length-cut, getD-cut, cut-sets, cut-sets-past, cut-sets-before, tab-set}
+use Rattle.building.specs.Lists.{cut, length-cut, getD-cut, cut-sets, cut-sets-past, cut-sets-before, tab-set}
 use Rattle.building.specs.Holds.{Loaded}
 
 -- ring p lies in the table, and is one that the polygon's code takes
@@ -32,17 +32,9 @@ ring-length entries starts p s w = length-cut (getD starts p 0) (getD starts (p 
 
 -- ---- what holds of every element, after stores and in reverse
 module _ {A : Type 0} (P : A → Type 0) (d : A) where
-  pub all-set : (l : List A) (m j : ℕ) (v : A) → ((i : ℕ) → i < m → P (getD l i d)) → P v → (i : ℕ) → i < m → P (getD (set l j v) i d)
-  all-set l m j v h q i b =
-      cases (eqb i j)
-      (λ t. cases (ltb j (length l))
-      (λ u. subst P (sym (ap (λ (k : ℕ). getD (set l j v) k d) (eqb-true i j t) ∙ getD-set-same l j v d (ltb-true j (length l) u))) q)
-      (λ u. subst P (sym (ap (λ (r : List A). getD r i d) (set-out l j v (ltb-false j (length l) u)))) (h i b)))
-      (λ t. subst P (sym (getD-set-other l j i v d (eqb-false i j t))) (h i b))
-
   pub all-sets : (l vs : List A) (m a : ℕ) → ((i : ℕ) → i < m → P (getD l i d)) → ((k : ℕ) → k < length vs → P (getD vs k d)) → (i : ℕ) → i < m → P (getD (sets l a vs) i d)
   all-sets l [] m a h g = h
-  all-sets l (v ∷ vs) m a h g = all-sets (set l a v) vs m (suc a) (all-set l m a v h (g 0 (omega arith))) (λ k q. g (suc k) (omega arith))
+  all-sets l (v ∷ vs) m a h g = all-sets (set l a v) vs m (suc a) (all-set P d l m a v h (g 0 (omega arith))) (λ k q. g (suc k) (omega arith))
 
   all-aux : (l r : List A) → ((k : ℕ) → k < length l → P (getD l k d)) → ((k : ℕ) → k < length r → P (getD r k d)) → (k : ℕ) → k < length (reverseAux l r) → P (getD (reverseAux l r) k d)
   all-aux [] r h g = g

@@ -10,10 +10,10 @@ use lib.ListN.{length, getD, set, List·getD-eq-default}
 use lib.Seq.{set-getD}
 use lib.IntN.{ℤ, pos}
 use Rattle.whole.specs.Lists.{lists}
+use Rattle.whole.specs.Stores.{cases, upto, length-upto, upto-more, upto-done, upto-rest, zeroed}
 use Rattle.polygon.specs.Ring.{finding, findingNumber, part}
 use Rattle.polygon.specs.Held.{pointsOf}
 use Rattle.shell.specs.Held.{ringAt}
-use Rattle.building.specs.Lists.{cases, upto, length-upto, upto-more, upto-done, upto-rest}
 
 -- the number of ring p's finding, and its part
 abbrev pub numberAt : ℕ → List ℤ → List ℕ → List ℕ → ℕ → ℕ
@@ -85,22 +85,8 @@ module _ (tolerance : ℕ) (points : List ℤ) (entries starts : List ℕ) (numb
             summed = t .summed ∙ ap (λ (l : List ℤ). set l m (repart points entries starts n m (getD l m (pos 0)))) (lo .summed) ∙ upto-more (repart points entries starts n) (pos 0) parts m;
           }
 
--- ---- the first m are 0
-abbrev pub zeroed : List ℕ → ℕ → List ℕ
-zeroed l m = upto (λ p old. 0) 0 l m
-
+-- ---- all 256 are 0
 module _ (l : List ℕ) where
-  pub zeroed-none : l ≡ zeroed l 0
-  unfolding upto
-  zeroed-none = refl
-
-  pub zeroed-more : (m : ℕ) {l' : List ℕ} → l' ≡ zeroed l m → set l' m 0 ≡ zeroed l (m + 1)
-  zeroed-more m e = ap (λ (k : List ℕ). set k m 0) e ∙ upto-more (λ p old. 0) 0 l m
-
-  pub zeroed-length : (m : ℕ) {l' : List ℕ} → l' ≡ zeroed l m → length l' ≡ length l
-  zeroed-length m e = ap length e ∙ length-upto (λ p old. 0) 0 l m
-
-  -- all are 0
   pub zeroed-all : length l ≡ 256 → (p : ℕ) → getD (zeroed l 256) p 0 ≡ 0
   zeroed-all h p =
       cases (ltb p 256)

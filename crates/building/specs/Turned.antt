@@ -15,6 +15,7 @@ use mir.Val.{SFits, ofZ, toZ}
 use mir.Facts.{toZ-ofZ}
 use Rattle.whole.specs.Lists.{tab, at}
 use Rattle.whole.specs.Size.{Small, small-more, small-fits}
+use Rattle.whole.specs.Stores.{cases, all-set}
 use Rattle.polygon.specs.Ring.{isUnclosed, finding, findingNumber, part}
 use Rattle.polygon.specs.Turn.{part-turned}
 use Rattle.polygon.specs.TurnFinding.{finding-turned}
@@ -26,10 +27,10 @@ use Rattle.shell.specs.EdgedLaws.{edged-turned}
 use Rattle.building.specs.declared.Scalars.{Scalars}
 use Rattle.building.specs.Tables.{Building, turned}
 use Rattle.shell.specs.Tabs.{getD-tab, length-tab}
-use Rattle.building.specs.Lists.{cases, tab-set}
+use Rattle.building.specs.Lists.{tab-set}
 use Rattle.building.specs.Findings.{isBroken, broken-turned}
 use Rattle.building.specs.Holds.{Arrays, arrays, heldTables, heldBuilding, Loaded, Found, Summed, Broken, Kept, Held, Did}
-use Rattle.building.specs.Rings.{Ring, rings-length, ring-of, turnedEntries, turned-own, turned-known, turned-other, turned-same, turned-rings, turned-loaded, at-is-set, all-set}
+use Rattle.building.specs.Rings.{Ring, rings-length, ring-of, turnedEntries, turned-own, turned-known, turned-other, turned-same, turned-rings, turned-loaded, at-is-set}
 
 -- ---- the part of a turned ring, from what it was
 neg-neg : (z : ℤ) → negℤ (negℤ z) ≡ z

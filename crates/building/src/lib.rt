@@ -4,26 +4,26 @@ use shell::Shape;
 ghost use mathlib.Core.Path.{_≡_};
 ghost use mathlib.Core.Bool.{false};
 ghost use mathlib.Core.List.{reverse};
-ghost use Prim.Native.Nat.{_+_, _*_, _-_, _<_, _≤_};
+ghost use Prim.Native.Nat.{_+_, _-_, _<_, _≤_};
 ghost use lib.Dec.{ltb};
 ghost use lib.ListN.{length, getD, set, take};
 ghost use lib.Seq.{sets};
-ghost use lib.IntN.{pos, natAbs};
+ghost use lib.IntN.{pos};
 ghost use Rattle.whole.specs.Lists.{tally, sumOf, lists};
-ghost use Rattle.polygon.specs.Space.{samePlace};
+ghost use Rattle.whole.specs.Stores.{zeroed};
 ghost use Rattle.polygon.specs.Ring.{finding, findingNumber, part};
-ghost use Rattle.polygon.specs.Held.{pointsOf, placeAt, Coords, Known};
+ghost use Rattle.polygon.specs.Held.{pointsOf, Coords, Known};
+ghost use Rattle.places.specs.Points.{point3, isFar};
 ghost use Rattle.shell.specs.Held.{ringAt};
 ghost use Rattle.shell.specs.Shell.{shapeNumber, shapeA, shapeB};
-ghost use Rattle.building.specs.Tables.{isFar, standsElse, loaded, moved};
+ghost use Rattle.building.specs.Tables.{loaded, moved};
 ghost use Rattle.building.specs.Tables as Tables;
 ghost use Rattle.building.specs.Report.{checkNumber, elementA, elementB, verdict};
 ghost use Rattle.building.specs.Lists.{cut};
-ghost use Rattle.building.specs.Holds.{point3, placed, arrays, heldTables, heldBuilding, Loaded, Sizes, Kept, Held, Did};
+ghost use Rattle.building.specs.Holds.{arrays, heldTables, heldBuilding, Loaded, Sizes, Kept, Held, Did};
 ghost use Rattle.building.specs.Rings.{Ring, turnedEntries};
-ghost use Rattle.building.specs.Steps.{Refreshed, Touched, Looked, Checked, zeroed};
+ghost use Rattle.building.specs.Steps.{Refreshed, Touched, Looked, Checked};
 ghost use Rattle.building.specs.Check.{isEarly, EarlyAt};
-ghost use Rattle.building.specs.Places.{elseAt};
 ghost use Rattle.building.specs.Scans.{lowest, Summable};
 ghost use Rattle.building.specs.Writes.{MoveWrites, TurnWrites, LoadWrites};
 
@@ -44,66 +44,6 @@ pub struct Scalars {
     pub last: u32,
     pub edges: usize,
     pub fixed: Shape,
-}
-
-// Whether a coordinate is beyond its bound.
-fn beyond(x: i64) -> bool
-    ensures { λ r. ⌜ r ≡ ltb 100000 (natAbs x) ⌝ }
-{
-    (x < -100000) | (100000 < x)
-}
-
-// "tolerance or coordinate beyond its bound"
-pub fn is_far(x: i64, y: i64, z: i64) -> bool
-    ensures { λ r. ⌜ r ≡ isFar (point3 x y z) ⌝ }
-{
-    beyond(x) | beyond(y) | beyond(z)
-}
-
-// Whether a place is that of point p.
-fn same_place(points: &[i64; 1536], p: usize, x: i64, y: i64, z: i64) -> bool
-    requires { ⌜ (length (now points) ≡ 1536) × (p < 512) ⌝ }
-    ensures { λ r. ⌜ r ≡ samePlace (point3 x y z) (placeAt (now (points .entry)) p) ⌝ }
-{
-    let i = 3 * p;
-    (x == points[i]) & (y == points[i + 1]) & (z == points[i + 2])
-}
-
-// The same, of a point that is not number n.
-fn else_at(points: &[i64; 1536], p: usize, n: usize, x: i64, y: i64, z: i64) -> bool
-    requires { ⌜ (length (now points) ≡ 1536) × (p < 512) ⌝ }
-    ensures { λ r. ⌜ r ≡ elseAt p n (point3 x y z) (placeAt (now (points .entry)) p) ⌝ }
-{
-    if p == n {
-        return false;
-    }
-    same_place(points, p, x, y, z)
-}
-
-// "the place is that of another point": of one of the first count, but for number n.
-pub fn stands_else(points: &[i64; 1536], count: usize, n: usize, x: i64, y: i64, z: i64) -> bool
-    requires { ⌜ (length (now points) ≡ 1536) × (count ≤ 512) ⌝ }
-    ensures { λ r. ⌜ r ≡ standsElse n (point3 x y z) (take count (pointsOf (now (points .entry)))) ⌝ }
-{
-    let mut i = 0;
-    while i < count {
-        if else_at(points, i, n, x, y, z) {
-            return true;
-        }
-        i += 1;
-    }
-    false
-}
-
-// Point n at another place.
-pub fn place(points: &mut [i64; 1536], n: usize, x: i64, y: i64, z: i64)
-    requires { ⌜ (length (now points) ≡ 1536) × (n < 512) ⌝ }
-    ensures { λ _. ⌜ now (points .exit) ≡ placed (now (points .entry)) n (point3 x y z) ⌝ }
-{
-    let i = 3 * n;
-    points[i] = x;
-    points[i + 1] = y;
-    points[i + 2] = z;
 }
 
 // Ring n ends where the next one starts.
@@ -350,7 +290,7 @@ pub fn move_point(
     ensures { λ r. ⌜ Did (moved number n (point3 x y z) (heldBuilding (arrays (now (points .entry)) (now (entries .entry)) (now (starts .entry)) (now (stamps .entry)) (now (findings .entry)) (now (parts .entry)) (now (table .entry)) (now (turned .entry))) s)) (arrays (now (points .exit)) (now (entries .entry)) (now (starts .entry)) (now (stamps .exit)) (now (findings .exit)) (now (parts .exit)) (now (table .entry)) (now (turned .entry))) r ⌝ }
     ensures { λ r. ⌜ MoveWrites (arrays (now (points .entry)) (now (entries .entry)) (now (starts .entry)) (now (stamps .entry)) (now (findings .entry)) (now (parts .entry)) (now (table .entry)) (now (turned .entry))) s number n (point3 x y z) (now (points .exit)) (now (stamps .exit)) (now (findings .exit)) (now (parts .exit)) r ⌝ }
 {
-    place(points, n, x, y, z);
+    places::place(points, n, x, y, z);
     look_again(
         points,
         entries,

@@ -19,11 +19,14 @@ use Rattle.polygon.specs.Space.{Point}
 use Rattle.polygon.specs.Ring.{finding, findingNumber, part}
 use Rattle.shell.specs.declared.Shape.{Shape}
 use Rattle.shell.specs.declared.Shape.the-variants.{Whole}
+use Rattle.whole.specs.Stores.{zeroed}
+use Rattle.places.specs.Points.{point3, isFar, placed}
+use Rattle.places.specs.Chains.{Chained, linked, chained-none, chained-more}
 use Rattle.building.specs.declared.Scalars.{Scalars}
-use Rattle.building.specs.Tables.{Tables, Building, begun, withPoint, withPolygon, loaded, isFar, moved, turned}
+use Rattle.building.specs.Tables.{Tables, Building, begun, withPoint, withPolygon, loaded, moved, turned}
 use Rattle.building.specs.declared.Verdict.{Verdict}
 use Rattle.building.specs.Report.{verdict, report, sixVolume, checkNumber, elementA, elementB}
-use Rattle.building.specs.Holds.{point3, Arrays, heldTables, heldBuilding, Loaded, Sizes, Kept, Held, placed}
+use Rattle.building.specs.Holds.{Arrays, heldTables, heldBuilding, Loaded, Sizes, Kept, Held}
 use Rattle.building.specs.Holds as B
 use Rattle.building.specs.Load.{Room, tables-points, tables-polygons, loaded-begun, tables-begun, loaded-point, tables-point, loaded-polygon, tables-polygon}
 use Rattle.building.specs.Told.{kept-finding, kept-part, kept-stamp}
@@ -37,14 +40,14 @@ use Rattle.checker.specs.Refusals.{isAccepted, refused-outcome}
 use Rattle.checker.specs.Fresh.{Passed, passed, accepted-outcome, known-ring}
 use Rattle.checker.specs.Handlers.{of-begin, of-broken}
 use Rattle.checker.specs.Holds.{loads, holds, stateOf, service, Valid, Did, does, withPoints, withRings}
-use Rattle.checker.specs.Rows.{Row, PointRow, PolygonRow, MoveRow, TurnRow, QuestionRow, tables, service-loads, service-holds}
+use Rattle.checker.specs.Rows.{Row, PointRow, PolygonRow, MoveRow, TurnRow, QuestionRow, tables, loads-is, service-loads, service-holds}
 
 -- ---- refused
 
 module _ (a : Arrays) (d : Desk) (v : Valid a d) where
   -- the same is held, whatever the place of the next answer
   valid-at : (at : ℕ) → Valid a (record { mode = d .mode; held = d .held; at = at })
-  valid-at at = record { loaded = v .loaded; sizes = v .sizes; kept = v .kept }
+  valid-at at = record { loaded = v .loaded; sizes = v .sizes; kept = v .kept; chained = v .chained }
 
   pub did-digits : (r : Refusal) (n : ℕ) → n ≡ refusalNumber r → (room room′ : List ℕ) (at : ℕ) → Wrote (ended (plain n)) room (d .at) room′ at
       → Did (refused r (service a d)) room (d .at) a room′ (record { mode = d .mode; held = d .held; at = at })
@@ -59,9 +62,10 @@ module _ (a : Arrays) (d : Desk) (v : Valid a d) where
   did-refused f r room room′ d′ e n h =
       subst (λ (o : Outcome). Did o room (d .at) a room′ d′) (sym (refused-outcome r (service a d) f n) ∙ ap (λ (q : Refusal). outcome q (service a d) f) e) h
 
--- arrays that are as they were, one of them under another name
-pub did-points : (o : Outcome) (room : List ℕ) (at : ℕ) (a : Arrays) (room′ : List ℕ) (d : Desk) (points : List ℤ) → a .points ≡ points → Did o room at a room′ d → Did o room at (withPoints points a) room′ d
-did-points o room at a room′ d points e h = subst (λ (w : Arrays). Did o room at w room′ d) (λ i. withPoints (e i) a) h
+-- arrays that are as they were, two of them under other names
+pub did-points : (o : Outcome) (room : List ℕ) (at : ℕ) (a : Arrays) (room′ : List ℕ) (d : Desk) (points : List ℤ) (table : List ℕ) → a .points ≡ points → a .table ≡ table → Did o room at a room′ d
+    → Did o room at (withPoints points table a) room′ d
+did-points o room at a room′ d points table e f h = subst (λ (w : Arrays). Did o room at w room′ d) (λ i. withPoints (e i) (f i) a) h
 
 pub did-rings : (o : Outcome) (room : List ℕ) (at : ℕ) (a : Arrays) (room′ : List ℕ) (d : Desk) (ents starts : List ℕ) → a .entries ≡ ents → a .starts ≡ starts → Did o room at a room′ d
     → Did o room at (withRings ents starts a) room′ d
@@ -94,6 +98,9 @@ holding-mode Holding t b e = refl
 pub not-held : Loading ≡ Holding → ⊥
 not-held e = false≢true (ap holds e)
 
+not-loads : Holding ≡ Loading → ⊥
+not-loads e = false≢true (ap loads e)
+
 -- ---- begin
 
 module _ (a : Arrays) (d : Desk) (v : Valid a d) (tolerance : ℕ) where
@@ -101,16 +108,18 @@ module _ (a : Arrays) (d : Desk) (v : Valid a d) (tolerance : ℕ) where
   abbrev pub begunDesk : ℕ → Desk
   begunDesk at = record { mode = Loading; held = record { tolerance = tolerance; points = 0; polygons = 0; last = 0; edges = 0; fixed = Whole }; at = at }
 
-  pub did-begin : tolerance ≤ 1000 → (room room′ : List ℕ) (at : ℕ) → Wrote (ended (plain 0)) room (d .at) room′ at
-      → Did (does (service a d) (begin tolerance)) room (d .at) a room′ (begunDesk at)
+  pub did-begin : tolerance ≤ 1000 → (table : List ℕ) → table ≡ zeroed (a .table) 512 → (room room′ : List ℕ) (at : ℕ) → Wrote (ended (plain 0)) room (d .at) room′ at
+      → Did (does (service a d) (begin tolerance)) room (d .at) (withPoints (a .points) table a) room′ (begunDesk at)
   unfolding first given isAccepted takes answerTo service stateOf
-  did-begin h room room′ at w =
-      did-accepted (service a d) (begin tolerance) Accepted room room′ (d .at) a (begunDesk at)
+  did-begin h table e room room′ at w =
+      let ch : Chained (a .points) table 0 = subst (λ (q : List ℕ). Chained (a .points) q 0) (sym e) (chained-none (a .points) (a .table) (v .sizes .table)) in
+      did-accepted (service a d) (begin tolerance) Accepted room room′ (d .at) (withPoints (a .points) table a) (begunDesk at)
       (sym (of-begin (service a d) tolerance ∙ (rw (le-ltb 1000 tolerance h)))) refl
       (record {
         loaded = loaded-begun (a .points) (a .entries) (a .starts) tolerance 0 0 Whole (v .loaded .coords) (v .loaded .entered .size) (v .loaded .begins .size) (v .loaded .first) h;
-        sizes = v .sizes;
-        kept = λ e. absurd (not-held e);
+        sizes = record { stamps = v .sizes .stamps; findings = v .sizes .findings; parts = v .sizes .parts; table = ch .size; turned = v .sizes .turned };
+        kept = λ q. absurd (not-held q);
+        chained = λ q. ch;
       })
       (ap loading (tables-begun (a .points) (a .entries) (a .starts) tolerance 0 0 Whole))
       w
@@ -138,16 +147,26 @@ module _ (a : Arrays) (d : Desk) (v : Valid a d) (x y z : ℤ) (r : Refusal) (ro
         at = at;
       }
 
-  pub did-point : d .held .points < 512 → (points : List ℤ) → points ≡ placed (a .points) (d .held .points) (point3 x y z)
-      → (room room′ : List ℕ) (at : ℕ) → Wrote (ended (plain 0)) room (d .at) room′ at → Did (does (service a d) (point x y z)) room (d .at) (withPoints points a) room′ (pointDesk at)
+  -- the chains with the point
+  point-chains : d .held .points < 512 → (points : List ℤ) (table : List ℕ) → points ≡ placed (a .points) (d .held .points) (point3 x y z) → table ≡ linked (a .table) (d .held .points) (point3 x y z)
+      → Chained points table (d .held .points + 1)
+  point-chains few points table e f =
+      subst (λ (q : List ℤ). Chained q table (d .held .points + 1)) (sym e)
+      (subst (λ (q : List ℕ). Chained (placed (a .points) (d .held .points) (point3 x y z)) q (d .held .points + 1)) (sym f)
+      (chained-more (a .points) (a .table) (d .held .points) (point3 x y z) (v .loaded .coords .room) few (v .chained (loads-is (d .mode) point-loads))))
+
+  pub did-point : d .held .points < 512 → (points : List ℤ) (table : List ℕ) → points ≡ placed (a .points) (d .held .points) (point3 x y z) → table ≡ linked (a .table) (d .held .points) (point3 x y z)
+      → (room room′ : List ℕ) (at : ℕ) → Wrote (ended (plain 0)) room (d .at) room′ at → Did (does (service a d) (point x y z)) room (d .at) (withPoints points table a) room′ (pointDesk at)
   unfolding takes answerTo service stateOf isBeyond tablesOf
-  did-point few points e room room′ at w =
-      did-accepted (service a d) (point x y z) r room room′ (d .at) (withPoints points a) (pointDesk at) row t
+  did-point few points table e f room room′ at w =
+      let ch : Chained points table (d .held .points + 1) = point-chains few points table e f in
+      did-accepted (service a d) (point x y z) r room room′ (d .at) (withPoints points table a) (pointDesk at) row t
       (record {
         loaded = subst (λ (q : List ℤ). Loaded q (a .entries) (a .starts) (pointDesk at .held)) (sym e)
             (loaded-point (v .loaded) (point3 x y z) few (d .held .last) (d .held .edges) Whole (point-passed .within));
-        sizes = record { stamps = v .sizes .stamps; findings = v .sizes .findings; parts = v .sizes .parts; table = v .sizes .table; turned = v .sizes .turned };
+        sizes = record { stamps = v .sizes .stamps; findings = v .sizes .findings; parts = v .sizes .parts; table = ch .size; turned = v .sizes .turned };
         kept = λ q. absurd (not-held q);
+        chained = λ q. ch;
       })
       (ap (λ (q : List ℤ). loading (heldTables q (a .entries) (a .starts) (pointDesk at .held))) e
       ∙ ap loading (tables-point (v .loaded) (point3 x y z) few (d .held .last) (d .held .edges) Whole)
@@ -199,6 +218,7 @@ module _ (a : Arrays) (d : Desk) (v : Valid a d) (ring : List ℕ) (r : Refusal)
             (loaded-polygon (v .loaded) ring (space-for few space short) (d .held .last) (d .held .edges) Whole));
         sizes = record { stamps = v .sizes .stamps; findings = v .sizes .findings; parts = v .sizes .parts; table = v .sizes .table; turned = v .sizes .turned };
         kept = λ q. absurd (not-held q);
+        chained = λ q. v .chained (loads-is (d .mode) polygon-loads);
       })
       ((λ i. loading (heldTables (a .points) (e i) (f i) (polygonDesk at .held)))
       ∙ ap loading (tables-polygon (v .loaded) ring (space-for few space short) (d .held .last) (d .held .edges) Whole)
@@ -227,7 +247,7 @@ module _ (a : Arrays) (d : Desk) (f : Frame) (r : Refusal) (row : r ≡ refusal 
   did-report b e n a′ s h room room′ at w =
       let same : heldTables (a′ .points) (a′ .entries) (a′ .starts) s ≡ b .tables = ap (λ (q : Building). q .tables) (h .is) in
       did-accepted (service a d) f r room room′ (d .at) a′ (record { mode = Holding; held = s; at = at }) row t
-      (record { loaded = h .held .loaded; sizes = held-sizes a′ s (h .held); kept = λ _. h .held .kept })
+      (record { loaded = h .held .loaded; sizes = held-sizes a′ s (h .held); kept = λ _. h .held .kept; chained = λ q. absurd (not-loads q) })
       (ap holding (h .is) ∙ sym e)
       (subst (λ (l : List ℕ). Wrote (ended l) room (d .at) room′ at) (ap reportOf same ∙ sym n ∙ ap (answerTo f) (sym e)) w)
 

@@ -26,13 +26,14 @@ use Rattle.polygon.specs.Ring.{ring-computes}
 use Rattle.shell.specs.Edges.{edges-compute}
 use Rattle.shell.specs.Reach.{reach-computes}
 use Rattle.shell.specs.Shell.{shell-computes}
+use Rattle.places.specs.Points.{points-compute}
 use Rattle.building.specs.Tables.{tables-compute}
 use Rattle.building.specs.Report.{report-computes}
 use Rattle.checker.specs.Service.{service-computes}
 use Rattle.checker.specs.Stream.{stream-computes, answers}
 
 unfoldable pub everything-computes : Unit {0}
-unfolding lists-compute bytes hex-computes L.lines-compute frame-computes answer-computes space-computes plane-computes ring-computes edges-compute reach-computes shell-computes tables-compute report-computes service-computes stream-computes
+unfolding lists-compute bytes hex-computes L.lines-compute frame-computes answer-computes space-computes plane-computes ring-computes edges-compute reach-computes shell-computes points-compute tables-compute report-computes service-computes stream-computes
 everything-computes = tt
 
 -- "One stream in full": "Input to `framecheck`"

@@ -9,6 +9,7 @@ use lib.IntN.{ℤ, pos}
 use Rattle.frame.specs.Meaning.{Listed}
 use Rattle.frame.specs.Lines.{lines, ended}
 use Rattle.frame.specs.Frame.{Frame, numbers}
+use Rattle.places.specs.Chains.{Chained}
 use Rattle.building.specs.declared.Scalars.{Scalars}
 use Rattle.building.specs.Tables.{Tables, Building}
 use Rattle.building.specs.Holds.{Arrays, heldTables, heldBuilding, Loaded, Sizes, Kept}
@@ -40,11 +41,13 @@ stateOf Holding t b = holding b
 unfoldable pub service : Arrays → Desk → State
 service a d = stateOf (d .mode) (heldTables (a .points) (a .entries) (a .starts) (d .held)) (heldBuilding a (d .held))
 
--- what always holds of them; findings, parts and edges are kept while a building is held
+-- what always holds of them; findings, parts and edges are kept while a building is held, and while a load runs the edges' room holds the
+-- points by their places
 pub record Valid (a : Arrays) (d : Desk) : Type 0 where
   pub loaded : Loaded (a .points) (a .entries) (a .starts) (d .held)
   pub sizes : Sizes a
   pub kept : d .mode ≡ Holding → Kept (a .points) (a .entries) (a .starts) (a .findings) (a .parts) (a .table) (a .turned) (d .held)
+  pub chained : d .mode ≡ Loading → Chained (a .points) (a .table) (d .held .points)
 
 -- what comes back after an outcome, answered at a place of the room
 pub record Did (o : Outcome) (room : List ℕ) (at : ℕ) (a : Arrays) (room′ : List ℕ) (d : Desk) : Type 0 where
@@ -57,10 +60,10 @@ pub record Did (o : Outcome) (room : List ℕ) (at : ℕ) (a : Arrays) (room′ 
 abbrev pub does : State → Frame → Outcome
 does st f = outcome (refusal st f) st f
 
--- the arrays with other points, with other entries and starts
-abbrev pub withPoints : List ℤ → Arrays → Arrays
-withPoints points a =
-    record { points = points; entries = a .entries; starts = a .starts; stamps = a .stamps; findings = a .findings; parts = a .parts; table = a .table; turned = a .turned }
+-- the arrays with other points and another table, with other entries and starts
+abbrev pub withPoints : List ℤ → List ℕ → Arrays → Arrays
+withPoints points table a =
+    record { points = points; entries = a .entries; starts = a .starts; stamps = a .stamps; findings = a .findings; parts = a .parts; table = table; turned = a .turned }
 
 abbrev pub withRings : List ℕ → List ℕ → Arrays → Arrays
 withRings entries starts a =
@@ -71,6 +74,13 @@ pub record PolygonLine (line : List ℕ) (n : ℕ) : Type 0 where
   pub count : n ≡ length (numbers (drop 2 line))
   pub few : n ≤ 128
   pub listed : (i : ℕ) → i < n → Listed line i
+
+-- what a point more asks of the arrays that it changes
+pub record Placing (points : List ℤ) (table : List ℕ) (d : Desk) : Type 0 where
+  pub room : length points ≡ 1536
+  pub few : d .held .points ≤ 512
+  pub size : length table ≡ 1024
+  pub chained : d .mode ≡ Loading → Chained points table (d .held .points)
 
 -- what a question asks of the arrays that it reads
 pub record Asked (stamps findings : List ℕ) (parts : List ℤ) (polygons : ℕ) : Type 0 where

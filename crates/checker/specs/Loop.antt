@@ -25,7 +25,7 @@ use Rattle.checker.specs.Stream.{run, answers, served, Answers}
 use Rattle.checker.specs.Stream as Stream
 use Rattle.checker.specs.Short.{step-short, answers-short}
 use Rattle.checker.specs.Room.{long-stream, many-lines, narrow-room, answered-stream}
-use Rattle.checker.specs.Holds.{holds, stateOf, service, Valid, Did, does, idleDesk, Answered, Running}
+use Rattle.checker.specs.Holds.{loads, holds, stateOf, service, Valid, Did, does, idleDesk, Answered, Running}
 
 -- ---- one line
 
@@ -109,10 +109,14 @@ valid-idle a c e s z k =
       loaded = loaded-begun (a .points) (a .entries) (a .starts) 0 0 0 Whole c e s z (omega arith);
       sizes = k;
       kept = λ q. absurd (nothing-held q);
+      chained = λ q. absurd (nothing-loads q);
     }
   where
     nothing-held : Nothing ≡ Holding → ⊥
     nothing-held q = false≢true (ap holds q)
+
+    nothing-loads : Nothing ≡ Loading → ⊥
+    nothing-loads q = false≢true (ap loads q)
 
 -- ---- the entry
 

@@ -12,10 +12,11 @@ use Rattle.whole.specs.Lists.{given, first, any}
 use Rattle.frame.specs.Frame.{Frame, begin, point, polygon, end-of-load, move, turn, question, broken}
 use Rattle.polygon.specs.Space.{Point}
 use Rattle.polygon.specs.Held.{pointsOf}
-use Rattle.building.specs.Tables.{Tables, Building, entries, isFar, stands, standsElse}
-use Rattle.building.specs.Holds.{point3, Arrays, heldTables, heldBuilding, Loaded}
+use Rattle.places.specs.Points.{point3, isFar, stands, standsElse}
+use Rattle.places.specs.Places.{stands-all}
+use Rattle.building.specs.Tables.{Tables, Building, entries}
+use Rattle.building.specs.Holds.{Arrays, heldTables, heldBuilding, Loaded}
 use Rattle.building.specs.Load.{tables-points, tables-polygons, tables-entries}
-use Rattle.building.specs.Places.{stands-all}
 use Rattle.checker.specs.declared.Refusal.{Refusal}
 use Rattle.checker.specs.declared.Refusal.the-variants.{Accepted, Malformed, Misplaced, Beyond, Full, Absent, Taken, Late}
 use Rattle.checker.specs.declared.Mode.{Mode}
@@ -72,6 +73,11 @@ no-hold Nothing t b e = refl
 no-hold Loading t b e = refl
 no-hold Holding t b e = absurd (true≢false e)
 
+pub loads-is : (m : Mode) → loads m ≡ true → m ≡ Loading
+loads-is Nothing e = absurd (false≢true e)
+loads-is Loading e = refl
+loads-is Holding e = absurd (false≢true e)
+
 pub holds-is : (m : Mode) → m ≡ Holding → holds m ≡ true
 holds-is m e = ap holds e
 
@@ -113,7 +119,7 @@ module _ {d : Desk} {same : Arrays → Type 0} {f : Frame} {fits : Type 0} where
 -- ---- a point more
 
 abbrev pub PointRow : List ℤ → Desk → ℤ → ℤ → ℤ → Refusal → Type 0
-PointRow points d x y z r = Row d (λ a. a .points ≡ points) (point x y z) (d .held .points < 512) r
+PointRow points d x y z r = Row d (λ a. a .points ≡ points) (point x y z) ((d .held .points < 512) × (isFar (point3 x y z) ≡ false)) r
 
 module _ (points : List ℤ) (d : Desk) (x y z : ℤ) where
   pub point-misplaced : loads (d .mode) ≡ false → PointRow points d x y z Misplaced
@@ -148,7 +154,7 @@ module _ (points : List ℤ) (d : Desk) (x y z : ℤ) where
 
       pub point-accepted : d .held .points < 512 → standsElse (d .held .points) (point3 x y z) (take (d .held .points) (pointsOf points)) ≡ false → PointRow points d x y z Accepted
       unfolding isAccepted first given
-      point-accepted h e = record { is = λ a s v. sym (point-rows a s v ∙ (rw (near, lt-leb 512 (d .held .points) h, e))); fit = λ _. h }
+      point-accepted h e = record { is = λ a s v. sym (point-rows a s v ∙ (rw (near, lt-leb 512 (d .held .points) h, e))); fit = λ _. (h, near) }
 
 -- ---- a polygon more
 

@@ -66,8 +66,8 @@ fn one(
 {
     let f = frame::decode(line);
     match f {
-        Fields::Begin(tolerance) => load::begin(room, d, tolerance),
-        Fields::Point(x, y, z) => load::add_point(points, room, d, x, y, z),
+        Fields::Begin(tolerance) => load::begin(table, room, d, tolerance),
+        Fields::Point(x, y, z) => load::add_point(points, table, room, d, x, y, z),
         Fields::Polygon(n) => load::add_polygon(line, n, entries, starts, room, d),
         Fields::EndOfLoad => load::end_load(
             points,

@@ -15,16 +15,17 @@ ghost use Rattle.frame.specs.Frame as F;
 ghost use Rattle.frame.specs.Frame.{numbers};
 ghost use Rattle.shell.specs.Held.{Starts};
 ghost use Rattle.building.specs.Holds.{Arrays, arrays};
-ghost use Rattle.checker.specs.Holds.{service, Valid, Did, does, withPoints, withRings, PolygonLine};
+ghost use Rattle.checker.specs.Holds.{service, Valid, Did, does, withPoints, withRings, Placing, PolygonLine};
 
 // Accepted begin drops all that was held and starts a load.
-pub fn begin(room: &mut [u8], d: Desk, tolerance: u16) -> Desk
-    requires { ⌜ d .at + 33 ≤ length (now room) ⌝ }
-    ensures { λ r. ⌜ ((a : Arrays) → Valid a d → Did (does (service a d) (F.begin tolerance)) (now (room .entry)) (d .at) a (now (room .exit)) r) ⌝ }
+pub fn begin(table: &mut [u64; 1024], room: &mut [u8], d: Desk, tolerance: u16) -> Desk
+    requires { ⌜ (d .at + 33 ≤ length (now room)) × (length (now table) ≡ 1024) ⌝ }
+    ensures { λ r. ⌜ ((a : Arrays) → a .table ≡ now (table .entry) → Valid a d → Did (does (service a d) (F.begin tolerance)) (now (room .entry)) (d .at) (withPoints (a .points) (now (table .exit)) a) (now (room .exit)) r) ⌝ }
 {
     if 1000 < tolerance {
         return answer::refuse(room, d, Refusal::Beyond);
     }
+    places::clear(table);
     let from = d.at;
     let at = frame::put_plain(room, from, 0);
     let held = Scalars {
@@ -43,15 +44,24 @@ pub fn begin(room: &mut [u8], d: Desk, tolerance: u16) -> Desk
 }
 
 // A point more.
-pub fn add_point(points: &mut [i64; 1536], room: &mut [u8], d: Desk, x: i64, y: i64, z: i64) -> Desk
-    requires { ⌜ (d .at + 33 ≤ length (now room)) × ((length (now points) ≡ 1536) × (d .held .points ≤ 512)) ⌝ }
-    ensures { λ r. ⌜ ((a : Arrays) → a .points ≡ now (points .entry) → Valid a d → Did (does (service a d) (F.point x y z)) (now (room .entry)) (d .at) (withPoints (now (points .exit)) a) (now (room .exit)) r) ⌝ }
+pub fn add_point(
+    points: &mut [i64; 1536],
+    table: &mut [u64; 1024],
+    room: &mut [u8],
+    d: Desk,
+    x: i64,
+    y: i64,
+    z: i64,
+) -> Desk
+    requires { ⌜ (d .at + 33 ≤ length (now room)) × (Placing (now points) (now table) d) ⌝ }
+    ensures { λ r. ⌜ ((a : Arrays) → a .points ≡ now (points .entry) → a .table ≡ now (table .entry) → Valid a d → Did (does (service a d) (F.point x y z)) (now (room .entry)) (d .at) (withPoints (now (points .exit)) (now (table .exit)) a) (now (room .exit)) r) ⌝ }
 {
-    let refusal = refusals::of_point(points, d, x, y, z);
+    let refusal = refusals::of_point(points, table, d, x, y, z);
     if answer::is_accepted(refusal) {
         let s = d.held;
         let n = s.points;
-        building::place(points, n, x, y, z);
+        places::place(points, n, x, y, z);
+        places::link(table, n, x, y, z);
         let from = d.at;
         let at = frame::put_plain(room, from, 0);
         let held = Scalars {

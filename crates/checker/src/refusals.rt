@@ -9,7 +9,7 @@ ghost use lib.Dec.{leb};
 ghost use Rattle.whole.specs.Lists.{any};
 ghost use Rattle.frame.specs.Frame.{numbers};
 ghost use Rattle.shell.specs.Held.{Starts};
-ghost use Rattle.checker.specs.Holds.{loads, holds, PolygonLine};
+ghost use Rattle.checker.specs.Holds.{loads, holds, Placing, PolygonLine};
 ghost use Rattle.checker.specs.Rows.{PointRow, PolygonRow, EndRow, MoveRow, TurnRow, QuestionRow};
 
 fn is_loading(mode: Mode) -> bool
@@ -33,8 +33,15 @@ fn is_holding(mode: Mode) -> bool
 }
 
 // A point more.
-pub fn of_point(points: &[i64; 1536], d: Desk, x: i64, y: i64, z: i64) -> Refusal
-    requires { ⌜ (length (now points) ≡ 1536) × (d .held .points ≤ 512) ⌝ }
+pub fn of_point(
+    points: &[i64; 1536],
+    table: &[u64; 1024],
+    d: Desk,
+    x: i64,
+    y: i64,
+    z: i64,
+) -> Refusal
+    requires { ⌜ Placing (now points) (now table) d ⌝ }
     ensures { λ r. ⌜ PointRow (now (points .entry)) d x y z r ⌝ }
 {
     let mode = d.mode;
@@ -43,13 +50,13 @@ pub fn of_point(points: &[i64; 1536], d: Desk, x: i64, y: i64, z: i64) -> Refusa
     if !is_loading(mode) {
         return Refusal::Misplaced;
     }
-    if building::is_far(x, y, z) {
+    if places::is_far(x, y, z) {
         return Refusal::Beyond;
     }
     if 512 <= n {
         return Refusal::Full;
     }
-    if building::stands_else(points, n, n, x, y, z) {
+    if places::is_taken(points, table, n, x, y, z) {
         return Refusal::Taken;
     }
     Refusal::Accepted
@@ -133,10 +140,10 @@ pub fn of_move(
     if n <= p {
         return Refusal::Absent;
     }
-    if building::is_far(x, y, z) {
+    if places::is_far(x, y, z) {
         return Refusal::Beyond;
     }
-    if building::stands_else(points, n, p, x, y, z) {
+    if places::stands_else(points, n, p, x, y, z) {
         return Refusal::Taken;
     }
     Refusal::Accepted

@@ -13,3 +13,4 @@ pub mod Search
 pub mod First
 pub mod Places
 pub mod Agree
+pub mod Stores

@@ -4,7 +4,7 @@ use mathlib.Core.Path.{_≡_, ap, _∙_}
 use native.Mathlib.Omega.{arith}
 use borrow.Author.Needs.{needs}
 use lib.ListN.{length}
-use Rattle.building.specs.Steps.{zeroed, zeroed-none, zeroed-more, zeroed-length}
+use Rattle.whole.specs.Stores.{zeroed, zeroed-none, zeroed-more, zeroed-length}
 use Rattle.building.proofs.clear_stamps.Statement.{statement}
 use Rattle.building.proofs.clear_stamps.Tie as tie
 

@@ -3,8 +3,10 @@ use mathlib.Core.Path.{refl, sym, ap, _∙_, subst}
 use mathlib.Core.List.{List}
 use lib.IntN.{ℤ}
 use Rattle.polygon.specs.Space.{Point}
-use Rattle.building.specs.Holds.{point3, placed, arrays, Loaded}
-use Rattle.building.specs.Moved.{near-place, near-bits, moved-loaded, did-moved}
+use Rattle.places.specs.Points.{point3, placed}
+use Rattle.places.specs.Near.{near-place, near-bits}
+use Rattle.building.specs.Holds.{arrays, Loaded}
+use Rattle.building.specs.Moved.{moved-loaded, did-moved}
 use borrow.Author.Needs.{needs}
 use Rattle.building.proofs.move_point.Statement.{statement}
 use Rattle.building.proofs.move_point.Tie as tie

@@ -89,10 +89,10 @@ same-length c = search needs
 returns : tie.Need-returns
 unfolding meaning
 returns c =
-    let g = c .before .before .before .before .before .before .before .before .before .before .args in
-    let v = c .before .before .before .before .before .before .before .before .before .before .pre .1 in
+    let g = c .before .before .before .before .before .before .before .before .before .before .before .args in
+    let v = c .before .before .before .before .before .before .before .before .before .before .before .pre .1 in
     let w : Arrays = arrays (g .points .now) (g .entries .now) (g .starts .now) (g .stamps .now) (g .findings .now) (g .parts .now) (g .table .now) (g .turned .now) in
-    did-step (service w (g .d)) (g .line .now) (begin (c .before .before .before .before .before .f .given .0 .0)) (g .room .now) _ (g .d .at) _ _ (sym (ap (λ (q : Fields). meaning q (g .line .now)) (c .before .before .before .before .before .f .given .1)) ∙ c .before .before .before .before .before .before .before .decode .ensures) (c .before .before .begin .ensures w v)
+    did-step (service w (g .d)) (g .line .now) (begin (c .before .before .before .before .before .before .f .given .0 .0)) (g .room .now) _ (g .d .at) _ _ (sym (ap (λ (q : Fields). meaning q (g .line .now)) (c .before .before .before .before .before .before .f .given .1)) ∙ c .before .before .before .before .before .before .before .before .decode .ensures) (c .before .before .begin .ensures w refl v)
 
 same-length-2 : tie.Need-same-length-2
 same-length-2 c = search needs
@@ -100,12 +100,12 @@ same-length-2 c = search needs
 returns-2 : tie.Need-returns-2
 unfolding meaning
 returns-2 c =
-    let g = c .before .before .before .before .before .before .before .before .before .before .before .args in
-    let v = c .before .before .before .before .before .before .before .before .before .before .before .pre .1 in
+    let g = c .before .before .before .before .before .before .before .before .before .before .before .before .args in
+    let v = c .before .before .before .before .before .before .before .before .before .before .before .before .pre .1 in
     let w : Arrays = arrays (g .points .now) (g .entries .now) (g .starts .now) (g .stamps .now) (g .findings .now) (g .parts .now) (g .table .now) (g .turned .now) in
     did-step (service w (g .d)) (g .line .now) _ (g .room .now) _ (g .d .at) _ _
-    ((λ i. point (toZ-ofZ {w = w64} {z = c .before .before .before .before .before .before .f2 .given .0 .0} (record { sfits = c .before .before .before .before .before .known-told2 .given .0 .1 }) i) (toZ-ofZ {w = w64} {z = c .before .before .before .before .before .before .f2 .given .0 .1 .0} (record { sfits = c .before .before .before .before .before .known-told2 .given .1 .0 .1 }) i) (toZ-ofZ {w = w64} {z = c .before .before .before .before .before .before .f2 .given .0 .1 .1 .0} (record { sfits = c .before .before .before .before .before .known-told2 .given .1 .1 .0 .1 }) i)) ∙ sym (ap (λ (q : Fields). meaning q (g .line .now)) (c .before .before .before .before .before .before .f2 .given .1)) ∙ c .before .before .before .before .before .before .before .before .decode .ensures)
-    (c .before .before .add-point .ensures w refl v)
+    ((λ i. point (toZ-ofZ {w = w64} {z = c .before .before .before .before .before .before .before .f2 .given .0 .0} (record { sfits = c .before .before .before .before .before .before .known-told2 .given .0 .1 }) i) (toZ-ofZ {w = w64} {z = c .before .before .before .before .before .before .before .f2 .given .0 .1 .0} (record { sfits = c .before .before .before .before .before .before .known-told2 .given .1 .0 .1 }) i) (toZ-ofZ {w = w64} {z = c .before .before .before .before .before .before .before .f2 .given .0 .1 .1 .0} (record { sfits = c .before .before .before .before .before .before .known-told2 .given .1 .1 .0 .1 }) i)) ∙ sym (ap (λ (q : Fields). meaning q (g .line .now)) (c .before .before .before .before .before .before .before .f2 .given .1)) ∙ c .before .before .before .before .before .before .before .before .before .decode .ensures)
+    (c .before .before .add-point .ensures w refl refl v)
 
 same-length-3 : tie.Need-same-length-3
 same-length-3 c = search needs

@@ -10,7 +10,7 @@ use mathlib.Core.Bool.{true}
 use lib.ListN.{take}
 use Rattle.polygon.specs.Held.{pointsOf}
 use Rattle.polygon.specs.Space.{Point}
-use Rattle.building.specs.Tables.{isFar, standsElse}
+use Rattle.places.specs.Points.{isFar, standsElse}
 use mir.Facts.{toZ-ofZ}
 use mathlib.Core.Path.{_≡_, refl, sym, ap, _∙_}
 use borrow.Author.Needs.{needs}

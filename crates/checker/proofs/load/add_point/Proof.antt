@@ -1,51 +1,59 @@
 -- `checker::load::add_point` meets its contract.
-use Rattle.checker.specs.Holds.{does}
-use Rattle.checker.specs.Dids.{did-points}
-use Rattle.checker.specs.Holds.{service}
-use Rattle.checker.specs.Service.{refusal}
-use Rattle.checker.specs.Rows.{seen}
-use Rattle.checker.specs.Dids.{did-point, did-refused}
-use Rattle.checker.specs.Refusals.{isAccepted}
-use Rattle.building.specs.Holds.{point3, placed}
-use Rattle.frame.specs.Frame.{point}
-use lib.IntN.{ℤ}
-use mathlib.Core.List.{List}
+use mathlib.Core.Path.{_≡_, sym, ap, _∙_}
 use mathlib.Core.Bool.{true}
-use lib.ListN.{take}
-use Rattle.polygon.specs.Held.{pointsOf}
-use Rattle.polygon.specs.Space.{Point}
-use Rattle.building.specs.Tables.{isFar, standsElse}
+use mathlib.Core.List.{List}
+use Prim.Native.Nat.{ℕ}
+use lib.IntN.{ℤ}
 use mir.Facts.{toZ-ofZ}
-use mathlib.Core.Path.{_≡_, refl, sym, ap, _∙_}
+use Rattle.frame.specs.Frame.{point}
+use Rattle.polygon.specs.Space.{Point}
+use Rattle.places.specs.Points.{point3, placed}
+use Rattle.places.specs.Chains.{linked}
+use Rattle.checker.specs.Service.{refusal}
+use Rattle.checker.specs.Refusals.{isAccepted}
+use Rattle.checker.specs.Holds.{service, does}
+use Rattle.checker.specs.Rows.{seen}
+use Rattle.checker.specs.Dids.{did-points, did-point, did-refused}
 use borrow.Author.Needs.{needs}
 use Rattle.checker.proofs.load.add_point.Statement.{statement}
 use Rattle.checker.proofs.load.add_point.Tie as tie
 
 of-point-requires : tie.Need-of-point-requires
-of-point-requires c κs = search needs
+of-point-requires c κs = c .before .before .before .pre .1
 
 is-accepted-requires : tie.Need-is-accepted-requires
 is-accepted-requires c κs = search needs
 
 place-requires : tie.Need-place-requires
-place-requires c κs = (c .before .before .before .before .before .before .before .pre .1 .0, c .before .before .before .before .of-point .ensures .fit (sym (c .before .before .before .is-accepted .ensures) ∙ c .before .before .if1 .taken))
+place-requires c κs =
+    let fit = c .before .before .before .before .of-point .ensures .fit (sym (c .before .before .before .is-accepted .ensures) ∙ c .before .before .if1 .taken) in
+    (c .before .before .before .before .before .before .before .before .pre .1 .room, fit .0)
+
+link-requires : tie.Need-link-requires
+link-requires c κs =
+    let fit = c .before .before .before .before .before .before .of-point .ensures .fit (sym (c .before .before .before .before .before .is-accepted .ensures) ∙ c .before .before .before .before .if1 .taken) in
+    ((c .before .before .before .before .before .before .before .before .before .before .pre .1 .size, fit .0), fit .1)
 
 put-plain-requires : tie.Need-put-plain-requires
 put-plain-requires c κs = search needs
 
-add-t19 : tie.Need-add-t19
-add-t19 c = search needs
+add-t22 : tie.Need-add-t22
+add-t22 c = search needs
 
 same-length : tie.Need-same-length
 same-length c = search needs
 
 returns : tie.Need-returns
 returns c =
-    λ a s v.
-    let g = c .before .before .before .before .before .before .before .before .before .before .before .before .args in
-    let t : isAccepted (c .before .before .before .before .before .before .before .before .before .of-point .result) ≡ true = (sym (c .before .before .before .before .before .before .before .before .is-accepted .ensures) ∙ c .before .before .before .before .before .before .before .if1 .taken) in
-    did-point a (g .d) v (g .x) (g .y) (g .z) (c .before .before .before .before .before .before .before .before .before .of-point .result) (c .before .before .before .before .before .before .before .before .before .of-point .ensures .is a s v ∙ seen (λ (q : Point). refusal (service a (g .d)) (point (q .x) (q .y) (q .z))) (toZ-ofZ (c .before .before .before .before .before .before .before .before .before .before .before .before .fits .x)) (toZ-ofZ (c .before .before .before .before .before .before .before .before .before .before .before .before .fits .y)) (toZ-ofZ (c .before .before .before .before .before .before .before .before .before .before .before .before .fits .z))) t (c .before .before .before .before .before .before .before .before .before .of-point .ensures .fit t) _
-    (c .before .before .before .before .place .ensures ∙ seen (λ (q : Point). placed (c .before .before .before .before .before .before .before .before .before .before .before .before .args .points .now) (c .before .before .before .before .before .before .before .before .before .before .before .before .args .d .held .points) q) (toZ-ofZ (c .before .before .before .before .before .before .before .before .before .before .before .before .fits .x)) (toZ-ofZ (c .before .before .before .before .before .before .before .before .before .before .before .before .fits .y)) (toZ-ofZ (c .before .before .before .before .before .before .before .before .before .before .before .before .fits .z)) ∙ ap (λ (q : List ℤ). placed q (g .d .held .points) (point3 (g .x) (g .y) (g .z))) (sym s))
+    λ a s u v.
+    let g = c .before .before .before .before .before .before .before .before .before .before .before .before .before .before .before .args in
+    let f = c .before .before .before .before .before .before .before .before .before .before .before .before .before .before .before .fits in
+    let n = g .d .held .points in
+    let k = c .before .before .before .before .before .before .before .before .before .before .before .of-point in
+    let t : isAccepted (k .result) ≡ true = sym (c .before .before .before .before .before .before .before .before .before .before .is-accepted .ensures) ∙ c .before .before .before .before .before .before .before .before .before .if1 .taken in
+    did-point a (g .d) v (g .x) (g .y) (g .z) (k .result) (k .ensures .is a s v ∙ seen (λ (q : Point). refusal (service a (g .d)) (point (q .x) (q .y) (q .z))) (toZ-ofZ (f .x)) (toZ-ofZ (f .y)) (toZ-ofZ (f .z))) t (k .ensures .fit t .0) _ _
+    (c .before .before .before .before .before .before .place .ensures ∙ seen (λ (q : Point). placed (g .points .now) n q) (toZ-ofZ (f .x)) (toZ-ofZ (f .y)) (toZ-ofZ (f .z)) ∙ ap (λ (q : List ℤ). placed q n (point3 (g .x) (g .y) (g .z))) (sym s))
+    (c .before .before .before .before .link .ensures ∙ seen (λ (q : Point). linked (g .table .now) n q) (toZ-ofZ (f .x)) (toZ-ofZ (f .y)) (toZ-ofZ (f .z)) ∙ ap (λ (q : List ℕ). linked q n (point3 (g .x) (g .y) (g .z))) (sym u))
     (g .room .now) _ _ (c .before .before .put-plain .ensures)
 
 refuse-requires : tie.Need-refuse-requires
@@ -56,10 +64,12 @@ same-length-2 c = search needs
 
 returns-2 : tie.Need-returns-2
 returns-2 c =
-    λ a s v.
-    let g = c .before .before .before .before .before .before .before .before .before .args in
-    did-points (does (service a (g .d)) (point (g .x) (g .y) (g .z))) (g .room .now) (g .d .at) a _ _ (g .points .now) s
-    (did-refused a (g .d) v (point (g .x) (g .y) (g .z)) (c .before .before .before .before .before .before .of-point .result) (g .room .now) _ _ (c .before .before .before .before .before .before .of-point .ensures .is a s v ∙ seen (λ (q : Point). refusal (service a (g .d)) (point (q .x) (q .y) (q .z))) (toZ-ofZ (c .before .before .before .before .before .before .before .before .before .fits .x)) (toZ-ofZ (c .before .before .before .before .before .before .before .before .before .fits .y)) (toZ-ofZ (c .before .before .before .before .before .before .before .before .before .fits .z))) (sym (c .before .before .before .before .before .is-accepted .ensures) ∙ c .before .before .before .before .if1 .left) (c .before .before .refuse .ensures a v))
+    λ a s u v.
+    let g = c .before .before .before .before .before .before .before .before .before .before .args in
+    let f = c .before .before .before .before .before .before .before .before .before .before .fits in
+    let k = c .before .before .before .before .before .before .of-point in
+    did-points (does (service a (g .d)) (point (g .x) (g .y) (g .z))) (g .room .now) (g .d .at) a _ _ (g .points .now) (g .table .now) s u
+    (did-refused a (g .d) v (point (g .x) (g .y) (g .z)) (k .result) (g .room .now) _ _ (k .ensures .is a s v ∙ seen (λ (q : Point). refusal (service a (g .d)) (point (q .x) (q .y) (q .z))) (toZ-ofZ (f .x)) (toZ-ofZ (f .y)) (toZ-ofZ (f .z))) (sym (c .before .before .before .before .before .is-accepted .ensures) ∙ c .before .before .before .before .if1 .left) (c .before .before .refuse .ensures a v))
 
 pub add-point-spec : {M : Type 1} → statement M
 add-point-spec =
@@ -68,8 +78,9 @@ add-point-spec =
     of-point-requires
     is-accepted-requires
     place-requires
+    link-requires
     put-plain-requires
-    add-t19
+    add-t22
     same-length
     returns
     refuse-requires

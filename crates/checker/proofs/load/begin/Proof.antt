@@ -1,5 +1,11 @@
 -- `checker::load::begin` meets its contract.
-use Rattle.checker.specs.Dids.{did-begin, did-begin-beyond}
+use mathlib.Core.Path.{refl, sym, ap, _∙_}
+use mathlib.Core.List.{List}
+use Prim.Native.Nat.{ℕ}
+use Rattle.whole.specs.Stores.{zeroed}
+use Rattle.frame.specs.Frame.{begin}
+use Rattle.checker.specs.Holds.{service, does}
+use Rattle.checker.specs.Dids.{did-points, did-begin, did-begin-beyond}
 use borrow.Author.Needs.{needs}
 use Rattle.checker.proofs.load.begin.Statement.{statement}
 use Rattle.checker.proofs.load.begin.Tie as tie
@@ -11,7 +17,14 @@ same-length : tie.Need-same-length
 same-length c = search needs
 
 returns : tie.Need-returns
-returns c = λ a v. did-begin-beyond a (c .before .before .before .before .before .before .args .d) v (c .before .before .before .before .before .before .args .tolerance) (c .before .before .before .before .if1 .taken) (c .before .before .before .before .before .before .args .room .now) _ _ (c .before .before .refuse .ensures a v)
+returns c =
+    λ a e v.
+    let g = c .before .before .before .before .before .before .args in
+    did-points (does (service a (g .d)) (begin (g .tolerance))) (g .room .now) (g .d .at) a _ _ (a .points) (g .table .now) refl e
+    (did-begin-beyond a (g .d) v (g .tolerance) (c .before .before .before .before .if1 .taken) (g .room .now) _ _ (c .before .before .refuse .ensures a v))
+
+clear-requires : tie.Need-clear-requires
+clear-requires c κs = search needs
 
 put-plain-requires : tie.Need-put-plain-requires
 put-plain-requires c κs = search needs
@@ -20,9 +33,19 @@ same-length-2 : tie.Need-same-length-2
 same-length-2 c = search needs
 
 returns-2 : tie.Need-returns-2
-returns-2 c = λ a v. did-begin a (c .before .before .before .before .before .before .args .d) v (c .before .before .before .before .before .before .args .tolerance) (c .before .before .before .before .if1 .left) (c .before .before .before .before .before .before .args .room .now) _ _ (c .before .before .put-plain .ensures)
+returns-2 c =
+    λ a e v.
+    let g = c .before .before .before .before .before .before .before .before .args in
+    did-begin a (g .d) v (g .tolerance) (c .before .before .before .before .before .before .if1 .left) _ (c .before .before .before .before .clear .ensures ∙ ap (λ (q : List ℕ). zeroed q 512) (sym e)) (g .room .now) _ _ (c .before .before .put-plain .ensures)
 
 pub begin-spec : {M : Type 1} → statement M
 begin-spec =
     tie.close
-    (tie.spec refuse-requires same-length returns put-plain-requires same-length-2 returns-2)
+    (tie.spec
+    refuse-requires
+    same-length
+    returns
+    clear-requires
+    put-plain-requires
+    same-length-2
+    returns-2)

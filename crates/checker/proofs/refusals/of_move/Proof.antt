@@ -3,7 +3,7 @@ use Rattle.checker.specs.Rows.{seen, move-misplaced, move-late, move-abs
 use lib.ListN.{take}
 use Rattle.polygon.specs.Held.{pointsOf}
 use Rattle.polygon.specs.Space.{Point}
-use Rattle.building.specs.Tables.{isFar, standsElse}
+use Rattle.places.specs.Points.{isFar, standsElse}
 use mir.Facts.{toZ-ofZ}
 use borrow.Author.Tests.{not-true, not-false}
 use mathlib.Core.Path.{_≡_, refl, sym, ap, _∙_}

@@ -1,9 +1,9 @@
 -- `checker::refusals::of_point` meets its contract.
-use Rattle.checker.specs.Rows.{seen}
+use Rattle.checker.specs.Rows.{seen, loads-is}
 use lib.ListN.{take}
 use Rattle.polygon.specs.Held.{pointsOf}
 use Rattle.polygon.specs.Space.{Point}
-use Rattle.building.specs.Tables.{isFar, standsElse}
+use Rattle.places.specs.Points.{isFar, standsElse}
 use mir.Facts.{toZ-ofZ}
 use Rattle.checker.specs.Rows.{point-misplaced, point-beyond, point-full, point-taken, point-accepted}
 use borrow.Author.Tests.{not-true, not-false}
@@ -27,14 +27,17 @@ returns-2 c = point-beyond (c .before .before .before .before .before .args .poi
 returns-3 : tie.Need-returns-3
 returns-3 c = point-full (c .before .before .before .before .before .before .args .points .now) (c .before .before .before .before .before .before .args .d) (c .before .before .before .before .before .before .args .x) (c .before .before .before .before .before .before .args .y) (c .before .before .before .before .before .before .args .z) (sym (c .before .before .before .before .is-loading .ensures) ∙ not-false (c .before .before .before .before .is-loading .result) (c .before .before .before .if1 .left)) (sym (seen isFar (toZ-ofZ (c .before .before .before .before .before .before .fits .x)) (toZ-ofZ (c .before .before .before .before .before .before .fits .y)) (toZ-ofZ (c .before .before .before .before .before .before .fits .z))) ∙ sym (c .before .before .is-far .ensures) ∙ c .before .if2 .left) (c .if3 .taken)
 
-stands-else-requires : tie.Need-stands-else-requires
-stands-else-requires c κs = search needs
+is-taken-requires : tie.Need-is-taken-requires
+is-taken-requires c κs =
+    let s = c .before .before .before .before .before .before in
+    let l = c .before .before .before .before .is-loading in
+    ((s .pre .room, (s .pre .few, s .pre .chained (loads-is (s .args .d .mode) (sym (l .ensures) ∙ not-false (l .result) (c .before .before .before .if1 .left))))), sym (c .before .before .is-far .ensures) ∙ c .before .if2 .left)
 
 returns-4 : tie.Need-returns-4
-returns-4 c = point-taken (c .before .before .before .before .before .before .before .before .args .points .now) (c .before .before .before .before .before .before .before .before .args .d) (c .before .before .before .before .before .before .before .before .args .x) (c .before .before .before .before .before .before .before .before .args .y) (c .before .before .before .before .before .before .before .before .args .z) (sym (c .before .before .before .before .before .before .is-loading .ensures) ∙ not-false (c .before .before .before .before .before .before .is-loading .result) (c .before .before .before .before .before .if1 .left)) (sym (seen isFar (toZ-ofZ (c .before .before .before .before .before .before .before .before .fits .x)) (toZ-ofZ (c .before .before .before .before .before .before .before .before .fits .y)) (toZ-ofZ (c .before .before .before .before .before .before .before .before .fits .z))) ∙ sym (c .before .before .before .before .is-far .ensures) ∙ c .before .before .before .if2 .left) (c .before .before .if3 .left) (sym (seen (λ (q : Point). standsElse (c .before .before .before .before .before .before .before .before .args .d .held .points) q (take (c .before .before .before .before .before .before .before .before .args .d .held .points) (pointsOf (c .before .before .before .before .before .before .before .before .args .points .now)))) (toZ-ofZ (c .before .before .before .before .before .before .before .before .fits .x)) (toZ-ofZ (c .before .before .before .before .before .before .before .before .fits .y)) (toZ-ofZ (c .before .before .before .before .before .before .before .before .fits .z))) ∙ sym (c .before .stands-else .ensures) ∙ c .if4 .taken)
+returns-4 c = point-taken (c .before .before .before .before .before .before .before .before .args .points .now) (c .before .before .before .before .before .before .before .before .args .d) (c .before .before .before .before .before .before .before .before .args .x) (c .before .before .before .before .before .before .before .before .args .y) (c .before .before .before .before .before .before .before .before .args .z) (sym (c .before .before .before .before .before .before .is-loading .ensures) ∙ not-false (c .before .before .before .before .before .before .is-loading .result) (c .before .before .before .before .before .if1 .left)) (sym (seen isFar (toZ-ofZ (c .before .before .before .before .before .before .before .before .fits .x)) (toZ-ofZ (c .before .before .before .before .before .before .before .before .fits .y)) (toZ-ofZ (c .before .before .before .before .before .before .before .before .fits .z))) ∙ sym (c .before .before .before .before .is-far .ensures) ∙ c .before .before .before .if2 .left) (c .before .before .if3 .left) (sym (seen (λ (q : Point). standsElse (c .before .before .before .before .before .before .before .before .args .d .held .points) q (take (c .before .before .before .before .before .before .before .before .args .d .held .points) (pointsOf (c .before .before .before .before .before .before .before .before .args .points .now)))) (toZ-ofZ (c .before .before .before .before .before .before .before .before .fits .x)) (toZ-ofZ (c .before .before .before .before .before .before .before .before .fits .y)) (toZ-ofZ (c .before .before .before .before .before .before .before .before .fits .z))) ∙ sym (c .before .is-taken .ensures) ∙ c .if4 .taken)
 
 returns-5 : tie.Need-returns-5
-returns-5 c = point-accepted (c .before .before .before .before .before .before .before .before .args .points .now) (c .before .before .before .before .before .before .before .before .args .d) (c .before .before .before .before .before .before .before .before .args .x) (c .before .before .before .before .before .before .before .before .args .y) (c .before .before .before .before .before .before .before .before .args .z) (sym (c .before .before .before .before .before .before .is-loading .ensures) ∙ not-false (c .before .before .before .before .before .before .is-loading .result) (c .before .before .before .before .before .if1 .left)) (sym (seen isFar (toZ-ofZ (c .before .before .before .before .before .before .before .before .fits .x)) (toZ-ofZ (c .before .before .before .before .before .before .before .before .fits .y)) (toZ-ofZ (c .before .before .before .before .before .before .before .before .fits .z))) ∙ sym (c .before .before .before .before .is-far .ensures) ∙ c .before .before .before .if2 .left) (c .before .before .if3 .left) (sym (seen (λ (q : Point). standsElse (c .before .before .before .before .before .before .before .before .args .d .held .points) q (take (c .before .before .before .before .before .before .before .before .args .d .held .points) (pointsOf (c .before .before .before .before .before .before .before .before .args .points .now)))) (toZ-ofZ (c .before .before .before .before .before .before .before .before .fits .x)) (toZ-ofZ (c .before .before .before .before .before .before .before .before .fits .y)) (toZ-ofZ (c .before .before .before .before .before .before .before .before .fits .z))) ∙ sym (c .before .stands-else .ensures) ∙ c .if4 .left)
+returns-5 c = point-accepted (c .before .before .before .before .before .before .before .before .args .points .now) (c .before .before .before .before .before .before .before .before .args .d) (c .before .before .before .before .before .before .before .before .args .x) (c .before .before .before .before .before .before .before .before .args .y) (c .before .before .before .before .before .before .before .before .args .z) (sym (c .before .before .before .before .before .before .is-loading .ensures) ∙ not-false (c .before .before .before .before .before .before .is-loading .result) (c .before .before .before .before .before .if1 .left)) (sym (seen isFar (toZ-ofZ (c .before .before .before .before .before .before .before .before .fits .x)) (toZ-ofZ (c .before .before .before .before .before .before .before .before .fits .y)) (toZ-ofZ (c .before .before .before .before .before .before .before .before .fits .z))) ∙ sym (c .before .before .before .before .is-far .ensures) ∙ c .before .before .before .if2 .left) (c .before .before .if3 .left) (sym (seen (λ (q : Point). standsElse (c .before .before .before .before .before .before .before .before .args .d .held .points) q (take (c .before .before .before .before .before .before .before .before .args .d .held .points) (pointsOf (c .before .before .before .before .before .before .before .before .args .points .now)))) (toZ-ofZ (c .before .before .before .before .before .before .before .before .fits .x)) (toZ-ofZ (c .before .before .before .before .before .before .before .before .fits .y)) (toZ-ofZ (c .before .before .before .before .before .before .before .before .fits .z))) ∙ sym (c .before .is-taken .ensures) ∙ c .if4 .left)
 
 pub of-point-spec : {M : Type 1} → statement M
 of-point-spec =
@@ -45,6 +48,6 @@ of-point-spec =
     is-far-requires
     returns-2
     returns-3
-    stands-else-requires
+    is-taken-requires
     returns-4
     returns-5)

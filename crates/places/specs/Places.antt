@@ -1,14 +1,14 @@
 -- Points in the flat table: looking for a place, and what a place written there does.
-use Prim.Native.Nat.{ℕ, zero, suc, _+_, _*_, _≤_, _<_}
+use Prim.Native.Nat.{ℕ, zero, suc, _+_, _≤_, _<_}
 use native.Mathlib.Omega.{arith}
 use native.Mathlib.Numerals.{add-one}
 use native.Mathlib.Nat.{zero-add}
-use mathlib.Core.Path.{_≡_, refl, sym, ap, _∙_, subst}
+use mathlib.Core.Path.{_≡_, refl, sym, ap, _∙_}
 use mathlib.Core.Bool.{Bool, true, false, cond, _||_, _&&_, false≢true}
-use mathlib.Core.List.{List, [], _∷_, _++_}
+use mathlib.Core.List.{List, [], _∷_}
 use borrow.Author.Tests.{eq-eqb, ne-eqb, eqb-true, lt-ltb, le-ltb, ltb-true, ltb-false}
 use lib.Dec.{eqb, ltb}
-use lib.ListN.{length, getD, take, drop, set}
+use lib.ListN.{length, getD, take, drop}
 use lib.Seq.{getD-take, length-take-le}
 use lib.IntN.{ℤ, pos, negsuc, natAbs}
 use lib.Signed.{ltZ}
@@ -19,8 +19,7 @@ use Rattle.whole.specs.Lists.{any, sameZ}
 use Rattle.whole.specs.Search.{drop-next, drop-end}
 use Rattle.polygon.specs.Space.{Point, origin, samePlace}
 use Rattle.polygon.specs.Held.{pointsOf, placeAt, pointsOf-at, pointsOf-length}
-use Rattle.building.specs.Tables.{isFar, stands, standsElse}
-use Rattle.building.specs.Holds.{point3}
+use Rattle.places.specs.Points.{point3, isFar, stands, standsElse}
 
 -- ---- tests of the machine
 pub beyond-is : (z : ℤ) → (ltZ z (negsuc 99999) || ltZ (pos 100000) z) ≡ ltb 100000 (natAbs z)
@@ -42,6 +41,21 @@ same-is (pos a) (pos b) e = ap pos (eqb-true a b e)
 same-is (pos a) (negsuc b) e = absurd (false≢true e)
 same-is (negsuc a) (pos b) e = absurd (false≢true e)
 same-is (negsuc a) (negsuc b) e = ap negsuc (eqb-true a b e)
+
+pub same-place : (p q : Point) → samePlace p q ≡ true → p ≡ q
+unfolding samePlace
+same-place p q e =
+    let s = all-of (sameZ (p .x) (q .x)) (sameZ (p .y) (q .y)) (sameZ (p .z) (q .z)) e in
+    let x = same-is (p .x) (q .x) (s .0) in
+    let y = same-is (p .y) (q .y) (s .1) in
+    let z = same-is (p .z) (q .z) (s .2) in
+    λ i. point3 (x i) (y i) (z i)
+  where
+    all-of : (s u r : Bool) → (s && u && r) ≡ true → (s ≡ true) × (u ≡ true) × (r ≡ true)
+    all-of true true true e = (refl, refl, refl)
+    all-of true true false e = absurd (false≢true e)
+    all-of true false r e = absurd (false≢true e)
+    all-of false u r e = absurd (false≢true e)
 
 -- `==` is of the bits
 pub same-bits : {a b : ℤ} → SFits w64 a → SFits w64 b → eqb (ofZ w64 a) (ofZ w64 b) ≡ sameZ a b

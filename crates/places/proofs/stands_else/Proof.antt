@@ -1,4 +1,4 @@
--- `building::stands_else` meets its contract. The loop keeps: what is left of the points tells of them all.
+-- `places::stands_else` meets its contract. The loop keeps: what is left of the points tells of them all.
 use Rattle.polygon.specs.Space.{Point}
 use mir.Syntax.{w64}
 use mir.Val.{toZ}
@@ -8,11 +8,11 @@ use native.Mathlib.Omega.{arith}
 use borrow.Author.Needs.{needs}
 use lib.ListN.{take, drop}
 use Rattle.polygon.specs.Held.{pointsOf}
-use Rattle.building.specs.Tables.{standsElse}
-use Rattle.building.specs.Holds.{point3}
-use Rattle.building.specs.Places.{elseFrom, else-start, else-here, else-next, else-end, point-bits}
-use Rattle.building.proofs.stands_else.Statement.{statement}
-use Rattle.building.proofs.stands_else.Tie as tie
+use Rattle.places.specs.Points.{standsElse}
+use Rattle.places.specs.Points.{point3}
+use Rattle.places.specs.Places.{elseFrom, else-start, else-here, else-next, else-end, point-bits}
+use Rattle.places.proofs.stands_else.Statement.{statement}
+use Rattle.places.proofs.stands_else.Tie as tie
 
 abbrev Inv-loop : tie.InvT-loop
 Inv-loop points count n x y z i₀ i = (i ≤ count) × (elseFrom i n (point3 (toZ w64 x) (toZ w64 y) (toZ w64 z)) (drop i (take count (pointsOf points))) ≡ standsElse n (point3 (toZ w64 x) (toZ w64 y) (toZ w64 z)) (take count (pointsOf points)))

@@ -1,11 +1,11 @@
--- `building::else_at` meets its contract, by whether the point is number n.
+-- `places::else_at` meets its contract, by whether the point is number n.
 use Rattle.polygon.specs.Space.{Point, samePlace}
 use Rattle.polygon.specs.Held.{placeAt}
 use mathlib.Core.Path.{sym, ap, _∙_}
-use Rattle.building.specs.Places.{own, other, point-bits}
+use Rattle.places.specs.Places.{own, other, point-bits}
 use borrow.Author.Needs.{needs}
-use Rattle.building.proofs.else_at.Statement.{statement}
-use Rattle.building.proofs.else_at.Tie as tie
+use Rattle.places.proofs.else_at.Statement.{statement}
+use Rattle.places.proofs.else_at.Tie as tie
 
 returns : tie.Need-returns
 returns c = sym (own _ (c .before .args .p) (c .before .args .n) _ (c .if1 .taken))

@@ -1,9 +1,9 @@
--- `building::same_place` meets its contract: bits are the same exactly where the numbers are.
+-- `places::same_place` meets its contract: bits are the same exactly where the numbers are.
 use Rattle.polygon.specs.Held.{placeAt}
-use Rattle.building.specs.Places.{place-is}
+use Rattle.places.specs.Places.{place-is}
 use borrow.Author.Needs.{needs}
-use Rattle.building.proofs.same_place.Statement.{statement}
-use Rattle.building.proofs.same_place.Tie as tie
+use Rattle.places.proofs.same_place.Statement.{statement}
+use Rattle.places.proofs.same_place.Tie as tie
 
 mul-i : tie.Need-mul-i
 mul-i c = search needs

@@ -1,12 +1,12 @@
--- `building::is_far` meets its contract: its three tests are those of the definition, the numbers read back from their bits.
+-- `places::is_far` meets its contract: its three tests are those of the definition, the numbers read back from their bits.
 use mir.Syntax.{w64}
 use mir.Val.{ofZ, toZ}
-use Rattle.building.specs.Places.{far-is, point-bits}
+use Rattle.places.specs.Places.{far-is, point-bits}
 use mathlib.Core.Path.{ap, _∙_}
-use Rattle.building.specs.Tables.{isFar}
+use Rattle.places.specs.Points.{isFar}
 use borrow.Author.Needs.{needs}
-use Rattle.building.proofs.is_far.Statement.{statement}
-use Rattle.building.proofs.is_far.Tie as tie
+use Rattle.places.proofs.is_far.Statement.{statement}
+use Rattle.places.proofs.is_far.Tie as tie
 
 beyond-requires : tie.Need-beyond-requires
 beyond-requires c κs = search needs

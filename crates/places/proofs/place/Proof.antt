@@ -1,7 +1,7 @@
--- `building::place` meets its contract: three stores.
+-- `places::place` meets its contract: three stores.
 use borrow.Author.Needs.{needs}
-use Rattle.building.proofs.place.Statement.{statement}
-use Rattle.building.proofs.place.Tie as tie
+use Rattle.places.proofs.place.Statement.{statement}
+use Rattle.places.proofs.place.Tie as tie
 
 mul-i : tie.Need-mul-i
 mul-i c = search needs

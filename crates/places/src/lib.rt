@@ -1,0 +1,133 @@
+// The table of points: a place held against its bound and against the places of the other points.
+ghost use mathlib.Core.Path.{_≡_};
+ghost use mathlib.Core.Bool.{false};
+ghost use Prim.Native.Nat.{_<_, _≤_};
+ghost use lib.Dec.{ltb};
+ghost use lib.ListN.{length, take};
+ghost use lib.IntN.{natAbs};
+ghost use Rattle.whole.specs.Size.{Small};
+ghost use Rattle.whole.specs.Stores.{zeroed};
+ghost use Rattle.polygon.specs.Space.{samePlace};
+ghost use Rattle.polygon.specs.Held.{pointsOf, placeAt};
+ghost use Rattle.places.specs.Points.{point3, isFar, standsElse, placed};
+ghost use Rattle.places.specs.Places.{elseAt};
+ghost use Rattle.places.specs.Buckets.{lift, bucketOf};
+ghost use Rattle.places.specs.Chains.{linked, Chained};
+
+// Whether a coordinate is beyond its bound.
+fn beyond(x: i64) -> bool
+    ensures { λ r. ⌜ r ≡ ltb 100000 (natAbs x) ⌝ }
+{
+    (x < -100000) | (100000 < x)
+}
+
+// "tolerance or coordinate beyond its bound"
+pub fn is_far(x: i64, y: i64, z: i64) -> bool
+    ensures { λ r. ⌜ r ≡ isFar (point3 x y z) ⌝ }
+{
+    beyond(x) | beyond(y) | beyond(z)
+}
+
+// Whether a place is that of point p.
+fn same_place(points: &[i64; 1536], p: usize, x: i64, y: i64, z: i64) -> bool
+    requires { ⌜ (length (now points) ≡ 1536) × (p < 512) ⌝ }
+    ensures { λ r. ⌜ r ≡ samePlace (point3 x y z) (placeAt (now (points .entry)) p) ⌝ }
+{
+    let i = 3 * p;
+    (x == points[i]) & (y == points[i + 1]) & (z == points[i + 2])
+}
+
+// The same, of a point that is not number n.
+fn else_at(points: &[i64; 1536], p: usize, n: usize, x: i64, y: i64, z: i64) -> bool
+    requires { ⌜ (length (now points) ≡ 1536) × (p < 512) ⌝ }
+    ensures { λ r. ⌜ r ≡ elseAt p n (point3 x y z) (placeAt (now (points .entry)) p) ⌝ }
+{
+    if p == n {
+        return false;
+    }
+    same_place(points, p, x, y, z)
+}
+
+// "the place is that of another point": of one of the first count, but for number n.
+pub fn stands_else(points: &[i64; 1536], count: usize, n: usize, x: i64, y: i64, z: i64) -> bool
+    requires { ⌜ (length (now points) ≡ 1536) × (count ≤ 512) ⌝ }
+    ensures { λ r. ⌜ r ≡ standsElse n (point3 x y z) (take count (pointsOf (now (points .entry)))) ⌝ }
+{
+    let mut i = 0;
+    while i < count {
+        if else_at(points, i, n, x, y, z) {
+            return true;
+        }
+        i += 1;
+    }
+    false
+}
+
+// Point n at another place.
+pub fn place(points: &mut [i64; 1536], n: usize, x: i64, y: i64, z: i64)
+    requires { ⌜ (length (now points) ≡ 1536) × (n < 512) ⌝ }
+    ensures { λ _. ⌜ now (points .exit) ≡ placed (now (points .entry)) n (point3 x y z) ⌝ }
+{
+    let i = 3 * n;
+    points[i] = x;
+    points[i + 1] = y;
+    points[i + 2] = z;
+}
+
+// A coordinate within its bound, from that bound on.
+fn lifted(x: i64) -> u64
+    requires { ⌜ Small 100000 x ⌝ }
+    ensures { λ r. ⌜ r ≡ lift x ⌝ }
+{
+    (x + 100000) as u64
+}
+
+// The bucket of a place within its bounds.
+fn bucket(x: i64, y: i64, z: i64) -> usize
+    requires { ⌜ isFar (point3 x y z) ≡ false ⌝ }
+    ensures { λ r. ⌜ r ≡ bucketOf (point3 x y z) ⌝ }
+{
+    let sum = lifted(x) * 2654435761 + lifted(y) * 2246822519 + lifted(z) * 3266489917;
+    (sum / 4194304 % 512) as usize
+}
+
+// Every chain is empty: the chains of no point.
+pub fn clear(table: &mut [u64; 1024])
+    requires { ⌜ length (now table) ≡ 1024 ⌝ }
+    ensures { λ _. ⌜ now (table .exit) ≡ zeroed (now (table .entry)) 512 ⌝ }
+{
+    let mut b = 0;
+    while b < 512 {
+        table[b] = 0;
+        b += 1;
+    }
+}
+
+// "the place is that of another point": of one of the first n, looked for along the chain of its bucket.
+pub fn is_taken(points: &[i64; 1536], table: &[u64; 1024], n: usize, x: i64, y: i64, z: i64) -> bool
+    requires { ⌜ (length (now points) ≡ 1536) × ((n ≤ 512) × (Chained (now points) (now table) n)) ⌝ }
+    requires { ⌜ isFar (point3 x y z) ≡ false ⌝ }
+    ensures { λ r. ⌜ r ≡ standsElse n (point3 x y z) (take n (pointsOf (now (points .entry)))) ⌝ }
+{
+    let b = bucket(x, y, z);
+    let mut k = table[b] as usize;
+    while 0 < k {
+        let i = k - 1;
+        if same_place(points, i, x, y, z) {
+            return true;
+        }
+        k = table[512 + i] as usize;
+    }
+    false
+}
+
+// Point n, which stands at a place within the bounds, becomes the first of its chain.
+pub fn link(table: &mut [u64; 1024], n: usize, x: i64, y: i64, z: i64)
+    requires { ⌜ (length (now table) ≡ 1024) × (n < 512) ⌝ }
+    requires { ⌜ isFar (point3 x y z) ≡ false ⌝ }
+    ensures { λ _. ⌜ now (table .exit) ≡ linked (now (table .entry)) n (point3 x y z) ⌝ }
+{
+    let b = bucket(x, y, z);
+    table[512 + n] = table[b];
+    table[b] = (n + 1) as u64;
+}
