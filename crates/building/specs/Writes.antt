@@ -12,8 +12,9 @@ use Rattle.shell.specs.declared.Shape.{Shape}
 use Rattle.shell.specs.declared.Shape.the-variants.{Whole}
 use Rattle.shell.specs.Held.{ringAt}
 use Rattle.shell.specs.Kept.{Built}
+use Rattle.places.specs.Points.{placed}
 use Rattle.building.specs.declared.Scalars.{Scalars}
-use Rattle.building.specs.Holds.{Arrays, placed}
+use Rattle.building.specs.Holds.{Arrays}
 use Rattle.building.specs.Rings.{turnedEntries}
 use Rattle.building.specs.Steps.{Looked, Checked, zeroed}
 use Rattle.building.specs.Check.{EarlyAt}
