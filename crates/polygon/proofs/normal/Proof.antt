@@ -10,11 +10,11 @@ use Rattle.whole.specs.Sum.{acc-end}
 use Rattle.whole.specs.Mach.{asks}
 use Rattle.whole.specs.Size.{Small}
 use Rattle.whole.specs.Solve.{v, _⊕_}
-use Rattle.polygon.specs.Leaves.{at, asPoint}
+use Rattle.polygon.specs.Leaves.{at, asPoint, on}
 use Rattle.polygon.specs.Held.{pointsOf}
 use Rattle.polygon.specs.declared.Axis.the-variants.{X, Y, Z}
 use Rattle.polygon.specs.declared.Axis.{Axis}
-use Rattle.polygon.proofs.Sums.{Going, going-start, going-next, going-few, going-in, two, turn, on, normalStep, Sums, normal-start, way-near, cross-next}
+use Rattle.polygon.proofs.Sums.{Going, going-start, going-next, going-few, going-in, two, turn, normalStep, Sums, normal-start, way-near, cross-next}
 use Rattle.polygon.proofs.normal.Statement.{statement}
 use Rattle.polygon.proofs.normal.Tie as tie
 
