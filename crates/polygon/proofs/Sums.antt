@@ -155,6 +155,13 @@ pub record Sums (points : List Point) (ring : List ℕ) (first last i : ℕ) (x 
   pub on-y : Acc (normalStep points first Y) 80000000000 (on Y (normal (places points ring))) ring last i y
   pub on-z : Acc (normalStep points first Z) 80000000000 (on Z (normal (places points ring))) ring last i z
 
+-- how far the loop has come: the way to the last entry passed, and the three sums
+pub record Walk (flat : List ℤ) (ring : List ℕ) (n first : ℕ) (way : Point) (i : ℕ) (x y z : ℤ) : Type 0 where
+  pub last : ℕ
+  pub going : Going ring n first last i
+  pub reached : way ≡ relativeTo (placeAt flat first) (placeAt flat last)
+  pub sums : Sums (pointsOf flat) ring first last i x y z
+
 -- the ways of a step, as code finds them
 pub way-is : {flat : List ℤ} {ring : List ℕ} {n first last i : ℕ} {p : Point} (e : ℕ) → Coords flat → Going ring n first last i → e < 512
     → p ≡ relativeTo (placeAt flat first) (placeAt flat e) → p ≡ relativeTo (getD (pointsOf flat) first origin) (getD (pointsOf flat) e origin)

@@ -5,7 +5,7 @@ use mathlib.Core.Path.{_≡_, ap, _∙_}
 use mathlib.Core.List.{List, [], _∷_, map, foldr}
 use lib.ListN.{length, getD}
 use lib.IntN.{ℤ, pos, _+ℤ_, _-ℤ_, _*ℤ_}
-use Rattle.whole.specs.Solve.{E, k, _⊕_, _⊖_, _⊗_, ring, _≔_}
+use Rattle.whole.specs.Solve.{k, _⊕_, _⊖_, _⊗_, ring, _≔_}
 use Rattle.whole.specs.Lists.{steps, stepsFrom, sumOf}
 use Rattle.polygon.specs.Space.{Point, origin, plus, relativeTo, cross, dot, determinant, places}
 use Rattle.polygon.specs.Ring.{relative, normal, partAbout, part}

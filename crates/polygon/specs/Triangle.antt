@@ -5,19 +5,19 @@ use Prim.Native.Nat.{ℕ, zero, suc, _≤_, _*_, max}
 use native.Mathlib.Omega.{arith}
 use mathlib.Core.Path.{_≡_, refl, sym, ap, _∙_, subst}
 use mathlib.Core.Bool.{Bool, true, false, cond, not, _&&_, true≢false}
-use mathlib.Core.List.{List, [], _∷_, map, foldr}
+use mathlib.Core.List.{List, [], _∷_}
 use borrow.Author.Tests.{le-ltb, leb-true, leb-false, eqb-true, not-false}
 use lib.Dec.{eqb, leb, ltb}
 use lib.ListN.{length, getD}
 use lib.IntN.{ℤ, pos, negsuc, natAbs, _+ℤ_, _-ℤ_, _*ℤ_}
-use Rattle.whole.specs.Solve.{E, k, _⊕_, _⊖_, _⊗_, ring, _≔_}
+use Rattle.whole.specs.Solve.{k, _⊕_, _⊖_, _⊗_, ring, _≔_}
 use Rattle.whole.specs.Lists.{any, anyTwo, steps, stepsFrom, numbered, numberedFrom, lastOf, sameZ}
 use Rattle.whole.specs.Search.{two-next}
 use Rattle.whole.specs.All.{none, more, none-any}
 use Rattle.polygon.specs.declared.Axis.{Axis}
 use Rattle.polygon.specs.declared.Axis.the-variants.{X, Y, Z}
 use Rattle.polygon.specs.Space.{Point, origin, plus, relativeTo, cross, dot, places}
-use Rattle.polygon.specs.Plane.{largestAxis, Spot, dropAxis, Segment, side, turnOff, shareMore}
+use Rattle.polygon.specs.Plane.{largestAxis, Spot, dropAxis, side, turnOff, shareMore}
 use Rattle.polygon.specs.Ring.{isUnclosed, relative, normal, isZero, follows, forbidden, edgesIn, isCrossed, size, isUneven}
 use Rattle.polygon.specs.Leaves.{at, on}
 
@@ -202,11 +202,13 @@ module _ (points : List Point) (ring : List ℕ) (four : length ring ≡ 4) (clo
   abbrev ps : List Point
   ps = places points ring
 
+  -- 05 does not fail
   pub triangle-uncrossed : isZero (normal ps) ≡ false → isCrossed (edgesIn (largestAxis (normal ps)) ps) ≡ false
   triangle-uncrossed =
       let k = corners points ring four closed in
       subst (λ (l : List Point). isZero (normal l) ≡ false → isCrossed (edgesIn (largestAxis (normal l)) l) ≡ false) (sym (k .are)) (crossed-none (k .a) (k .b) (k .c))
 
+  -- 06 does not fail, at any tolerance
   pub triangle-even : (tolerance : ℕ) → isUneven tolerance (normal ps) ps ≡ false
   triangle-even tolerance =
       let k = corners points ring four closed in

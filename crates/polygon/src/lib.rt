@@ -237,7 +237,8 @@ fn dot(a: Place, b: Place) -> i64
     ax * bx + ay * by + az * bz
 }
 
-// "the normal N is the sum, over consecutive entries, of the cross product of the two"
+// "the normal N is the sum, over consecutive entries, of the cross product of the two". Each entry's way from the first is
+// found once, and kept for the next step.
 fn normal(points: &[i64; 1536], ring: &[u16]) -> Place
     requires { ⌜ Coords (now points) ⌝ }
     requires { ⌜ Known (now ring) ⌝ }
@@ -249,11 +250,11 @@ fn normal(points: &[i64; 1536], ring: &[u16]) -> Place
     let mut z: i64 = 0;
     let n = ring.len();
     let first = ring[0];
-    let mut last = first;
+    let mut last = toward(points, first, first);
     let mut i: usize = 1;
     while i < n {
-        let next = ring[i];
-        let c = cross(toward(points, first, last), toward(points, first, next));
+        let next = toward(points, first, ring[i]);
+        let c = cross(last, next);
         let cx = c.x;
         let cy = c.y;
         let cz = c.z;

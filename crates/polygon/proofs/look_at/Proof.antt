@@ -16,7 +16,7 @@ use Rattle.polygon.proofs.look_at.Tie as tie
 returns : tie.Need-returns
 returns c =
     let a = c .before .before .args in
-    (found-short (a .tolerance) (pointsOf (a .points .now)) (a .ring .now) (omega arith), part-none (pointsOf (a .points .now)) (a .ring .now) (c .if1 .taken))
+    (found-short (a .tolerance) (pointsOf (a .points .now)) (a .ring .now) (omega arith), part-none (pointsOf (a .points .now)) (a .ring .now) (omega arith))
 
 normal-requires : tie.Need-normal-requires
 normal-requires c κs = search needs
