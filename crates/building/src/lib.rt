@@ -201,8 +201,9 @@ fn refresh(
     let to = starts[p + 1] as usize;
     let all = &entries[..];
     let ring = &all[from..to];
-    let finding = polygon::finding_of(points, ring, tolerance);
-    let part = polygon::part_of(points, ring);
+    let look = polygon::look_at(points, ring, tolerance);
+    let finding = look.finding;
+    let part = look.part;
     findings[p] = finding_number(finding);
     parts[p] = part;
 }

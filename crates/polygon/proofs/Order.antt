@@ -12,6 +12,7 @@ use Rattle.polygon.specs.Space.{Point, places}
 use Rattle.polygon.specs.Plane.{largestAxis}
 use Rattle.polygon.specs.Ring.{finding, isShort, isUnclosed, isRepeated, normal, isZero, edgesIn, isCrossed, isUneven}
 use Rattle.polygon.specs.Checks.{checks, finding-rows}
+use Rattle.polygon.specs.Triangle.{triangle-uncrossed, triangle-even}
 use Rattle.polygon.proofs.Rings.{not-not}
 
 -- "last entry differs from first", from whether the ring is closed
@@ -64,3 +65,7 @@ module _ (tolerance : ℕ) (points : List Point) (ring : List ℕ) where
             pub found-sound : isUneven tolerance n (places points ring) ≡ false → Sound ≡ finding tolerance points ring
             unfolding checks
             found-sound h = sym (finding-rows tolerance points ring ∙ first-none Sound (checks tolerance points ring) (more one (more two (more three (more four (more five (more h none)))))))
+
+          -- three edges do not cross, and three points are even
+          pub found-triangle : length ring ≡ 4 → Sound ≡ finding tolerance points ring
+          found-triangle h = found-sound (triangle-uncrossed points ring h two four) (triangle-even points ring h two tolerance)

@@ -1,13 +1,14 @@
 -- Rings, entry by entry: the last one, and all but it.
-use Prim.Native.Nat.{ℕ, suc, _+_, _-_}
+use Prim.Native.Nat.{ℕ, suc, _+_, _-_, _<_}
 use native.Mathlib.Omega.{arith}
 use mathlib.Core.Path.{_≡_, refl, sym, ap, _∙_}
-use mathlib.Core.Bool.{Bool, true, false, not}
+use mathlib.Core.Bool.{Bool, true, false, not, _||_, or-assoc}
 use mathlib.Core.List.{List, [], _∷_}
 use lib.Dec.{eqb}
 use lib.ListN.{length, getD, take, drop, length-drop}
 use lib.Seq.{take-all}
 use Rattle.whole.specs.Lists.{any, lastOf, front}
+use Rattle.whole.specs.Search.{any-here, any-next}
 use Rattle.polygon.specs.Ring.{isUnclosed}
 
 last-at : (a : ℕ) (l : List ℕ) → lastOf a l ≡ getD (a ∷ l) (length l) 0
@@ -30,6 +31,15 @@ closed-is [] n e f = absurd (f e)
 closed-is (a ∷ l) n e f =
     let m : n - 1 ≡ length l = omega arith in
     ap (λ (i : ℕ). eqb a (getD (a ∷ l) i 0)) m ∙ ap (eqb a) (sym (last-at a l)) ∙ sym (not-not (eqb a (lastOf a l)))
+
+-- one entry more is looked at
+pub found-more : (t : ℕ → Bool) (l : List ℕ) (i : ℕ) (found : Bool) {all : Bool} → i < length l → (found || any t (drop i l)) ≡ all → ((found || t (getD l i 0)) || any t (drop (i + 1) l)) ≡ all
+found-more t l i found h e =
+    or-assoc found (t (getD l i 0)) (any t (drop (i + 1) l)) ∙ ap (λ (b : Bool). found || b) (sym (go (t (getD l i 0)) refl)) ∙ e
+  where
+    go : (b : Bool) → t (getD l i 0) ≡ b → any t (drop i l) ≡ (b || any t (drop (i + 1) l))
+    go true f = any-here t l i 0 h f
+    go false f = any-next t l i 0 h f
 
 -- what is lent of a list from i on is all that is left
 pub rest-is : (r : ℕ → ℕ → Bool) (l : List ℕ) (i d : ℕ) → any (r (getD l i d)) (take (length l - (i + 1)) (drop (i + 1) l)) ≡ any (r (getD l i d)) (drop (i + 1) l)

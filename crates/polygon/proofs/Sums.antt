@@ -16,11 +16,12 @@ use Rattle.whole.specs.Mach.{Leaf, whole, bits-of, yields}
 use Rattle.whole.specs.Sum.{next, Acc, acc-step, acc-small}
 use Rattle.polygon.specs.declared.Axis.{Axis}
 use Rattle.polygon.specs.declared.Axis.the-variants.{X, Y, Z}
-use Rattle.polygon.specs.Space.{Point, origin, plus, relativeTo, cross, determinant, places}
+use Rattle.polygon.specs.Space.{Point, origin, plus, relativeTo, cross, dot, determinant, places}
 use Rattle.polygon.specs.Ring.{relative, normal, partAbout, part}
 use Rattle.polygon.specs.Held.{pointsOf, placeAt, Coords, Known}
+use Rattle.polygon.specs.Part.{part-from-normal}
 use Rattle.polygon.specs.Sizes.{near-place, near-same, near-way, near-cross, point-at, part-step-small}
-use Rattle.polygon.specs.Leaves.{Near}
+use Rattle.polygon.specs.Leaves.{Near, on}
 
 -- ---- how far a loop has come: entry i of n is next, and last was before it
 pub record Going (ring : List ℕ) (n first last i : ℕ) : Type 0 where
@@ -98,6 +99,11 @@ part-next {flat} {ring} {n} {first} {last} {i} h k g l e = (
   subst (λ (z : ℤ). Small 6000000000000000 z) (sym e) (part-step-small (near-place h first) (near-place h last) (near-place h (getD ring i 0))),
 )
 
+-- first·N, as code finds the two, is the part
+pub about-first : {flat : List ℤ} {ring : List ℕ} {n p : Point} → Coords flat → Known ring → 1 ≤ length ring → n ≡ normal (places (pointsOf flat) ring) → p ≡ placeAt flat (getD ring 0 0) → dot n p ≡ part (pointsOf flat) ring
+about-first {flat} {ring} h k some e f =
+    (λ i. dot (e i) ((f ∙ sym (point-at h (getD ring 0 0) (k .each 0 some))) i)) ∙ sym (part-from-normal (pointsOf flat) ring some)
+
 -- it is within the ring, and few have been passed
 pub going-few : {ring : List ℕ} {n first last i : ℕ} → Known ring → Going ring n first last i → i ≤ 128
 going-few k g = omega (arith, k .few, g .all, g .upto)
@@ -106,11 +112,6 @@ pub going-in : {ring : List ℕ} {n first last i : ℕ} → Going ring n first l
 going-in g l = omega (arith, g .all)
 
 -- ---- the normal, one component at a time
-abbrev pub on : Axis → Point → ℤ
-on X p = p .x
-on Y p = p .y
-on Z p = p .z
-
 on-plus : (axis : Axis) (p q : Point) → on axis (plus p q) ≡ on axis p +ℤ on axis q
 unfolding plus
 on-plus X p q = refl
@@ -153,6 +154,13 @@ pub record Sums (points : List Point) (ring : List ℕ) (first last i : ℕ) (x 
   pub on-x : Acc (normalStep points first X) 80000000000 (on X (normal (places points ring))) ring last i x
   pub on-y : Acc (normalStep points first Y) 80000000000 (on Y (normal (places points ring))) ring last i y
   pub on-z : Acc (normalStep points first Z) 80000000000 (on Z (normal (places points ring))) ring last i z
+
+-- how far the loop has come: the way to the last entry passed, and the three sums
+pub record Walk (flat : List ℤ) (ring : List ℕ) (n first : ℕ) (way : Point) (i : ℕ) (x y z : ℤ) : Type 0 where
+  pub last : ℕ
+  pub going : Going ring n first last i
+  pub reached : way ≡ relativeTo (placeAt flat first) (placeAt flat last)
+  pub sums : Sums (pointsOf flat) ring first last i x y z
 
 -- the ways of a step, as code finds them
 pub way-is : {flat : List ℤ} {ring : List ℕ} {n first last i : ℕ} {p : Point} (e : ℕ) → Coords flat → Going ring n first last i → e < 512

@@ -6,12 +6,15 @@ use mathlib.Core.List.{List}
 use lib.IntN.{ℤ}
 use Rattle.whole.specs.Agree.{agree}
 use Rattle.whole.specs.Lists.{lists}
-use Rattle.polygon.specs.declared.Finding.{Finding}
+use Rattle.polygon.specs.declared.Look.{Look}
 use Rattle.polygon.specs.Ring.{isUnclosed, finding, part}
 use Rattle.polygon.specs.Held.{pointsOf}
 
-pub finding-of-agrees : (flat : List ℤ) (ring : List ℕ) (tolerance : ℕ) (r₁ r₂ : Finding) → r₁ ≡ finding tolerance (pointsOf flat) ring → r₂ ≡ finding tolerance (pointsOf flat) ring → r₁ ≡ r₂
-finding-of-agrees flat ring tolerance r₁ r₂ = agree
+pub look-at-agrees : (flat : List ℤ) (ring : List ℕ) (tolerance : ℕ) (r₁ r₂ : Look)
+    → (r₁ .finding ≡ finding tolerance (pointsOf flat) ring) × (r₁ .part ≡ part (pointsOf flat) ring)
+    → (r₂ .finding ≡ finding tolerance (pointsOf flat) ring) × (r₂ .part ≡ part (pointsOf flat) ring)
+    → r₁ ≡ r₂
+look-at-agrees flat ring tolerance r₁ r₂ h k = λ i. record { finding = agree (h .0) (k .0) i; part = agree (h .1) (k .1) i }
 
 pub part-of-agrees : (flat : List ℤ) (ring : List ℕ) (r₁ r₂ : ℤ) → r₁ ≡ part (pointsOf flat) ring → r₂ ≡ part (pointsOf flat) ring → r₁ ≡ r₂
 part-of-agrees flat ring r₁ r₂ = agree

@@ -7,6 +7,8 @@ use lib.ListN.{getD, length}
 use lib.Signed.{ltZ}
 use lib.IntN.{ℤ, pos}
 use Rattle.whole.specs.Size.{Small}
+use Rattle.polygon.specs.declared.Axis.{Axis}
+use Rattle.polygon.specs.declared.Axis.the-variants.{X, Y, Z}
 use Rattle.polygon.specs.declared.Place.{Place}
 use Rattle.polygon.specs.declared.Edge.{Edge}
 use Rattle.polygon.specs.Space.{Point}
@@ -18,6 +20,12 @@ at x y z = record { x = x; y = y; z = z }
 -- the point that code holds as a `Place`
 abbrev pub asPoint : Place → Point
 asPoint p = at (p .x) (p .y) (p .z)
+
+-- a point's number on an axis
+abbrev pub on : Axis → Point → ℤ
+on X p = p .x
+on Y p = p .y
+on Z p = p .z
 
 abbrev pub least : ℤ → ℤ → ℤ
 least p q = cond (ltZ q p) q p

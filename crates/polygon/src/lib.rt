@@ -40,6 +40,12 @@ struct Place {
     z: i64,
 }
 
+// What is told of a polygon alone: its finding, and its part of the six-volume.
+pub struct Look {
+    pub finding: Finding,
+    pub part: i64,
+}
+
 // An edge in the plane that is left, from a to b.
 struct Edge {
     au: i64,
@@ -48,18 +54,17 @@ struct Edge {
     bv: i64,
 }
 
-// Whether the ring lists point n.
+// Whether the ring lists point n: no step of this branches, so that many entries are held against it at a time.
 pub fn lists(ring: &[u16], n: u16) -> bool
     ensures { λ r. ⌜ r ≡ lists n (now (ring .entry)) ⌝ }
 {
+    let mut found = false;
     let mut k: usize = 0;
     while k < ring.len() {
-        if n == ring[k] {
-            return true;
-        }
+        found = found | (n == ring[k]);
         k += 1;
     }
-    false
+    found
 }
 
 // Whether the ring's last entry is its first: check 02 holds.
@@ -232,7 +237,8 @@ fn dot(a: Place, b: Place) -> i64
     ax * bx + ay * by + az * bz
 }
 
-// "the normal N is the sum, over consecutive entries, of the cross product of the two"
+// "the normal N is the sum, over consecutive entries, of the cross product of the two". Each entry's way from the first is
+// found once, and kept for the next step.
 fn normal(points: &[i64; 1536], ring: &[u16]) -> Place
     requires { ⌜ Coords (now points) ⌝ }
     requires { ⌜ Known (now ring) ⌝ }
@@ -244,11 +250,11 @@ fn normal(points: &[i64; 1536], ring: &[u16]) -> Place
     let mut z: i64 = 0;
     let n = ring.len();
     let first = ring[0];
-    let mut last = first;
+    let mut last = toward(points, first, first);
     let mut i: usize = 1;
     while i < n {
-        let next = ring[i];
-        let c = cross(toward(points, first, last), toward(points, first, next));
+        let next = toward(points, first, ring[i]);
+        let c = cross(last, next);
         let cx = c.x;
         let cy = c.y;
         let cz = c.z;
@@ -846,11 +852,13 @@ fn is_crossed(points: &[i64; 1536], ring: &[u16], axis: Axis) -> bool
     }
 }
 
-// "A polygon's finding is the first of checks 01 to 06 that fails."
-pub fn finding_of(points: &[i64; 1536], ring: &[u16], tolerance: u16) -> Finding
+// The finding of a ring whose normal is n: "the first of checks 01 to 06 that fails". A ring of four entries that passes 01
+// to 04 passes 05 and 06 too.
+fn first_failing(points: &[i64; 1536], ring: &[u16], tolerance: u16, n: Place) -> Finding
     requires { ⌜ Coords (now points) ⌝ }
     requires { ⌜ Known (now ring) ⌝ }
     requires { ⌜ tolerance ≤ 1000 ⌝ }
+    requires { ⌜ asPoint n ≡ normal (places (pointsOf (now points)) (now ring)) ⌝ }
     ensures { λ r. ⌜ r ≡ finding tolerance (pointsOf (now (points .entry))) (now (ring .entry)) ⌝ }
 {
     if ring.len() < 4 {
@@ -862,9 +870,11 @@ pub fn finding_of(points: &[i64; 1536], ring: &[u16], tolerance: u16) -> Finding
     if is_repeated(ring) {
         return Finding::Repeated;
     }
-    let n = normal(points, ring);
     if is_zero(n) {
         return Finding::NoNormal;
+    }
+    if ring.len() == 4 {
+        return Finding::Sound;
     }
     if is_crossed(points, ring, largest_axis(n)) {
         return Finding::Crossed;
@@ -873,4 +883,25 @@ pub fn finding_of(points: &[i64; 1536], ring: &[u16], tolerance: u16) -> Finding
         return Finding::Uneven;
     }
     Finding::Sound
+}
+
+// A polygon's finding and its part: the normal serves both, the part being first·N.
+pub fn look_at(points: &[i64; 1536], ring: &[u16], tolerance: u16) -> Look
+    requires { ⌜ Coords (now points) ⌝ }
+    requires { ⌜ Known (now ring) ⌝ }
+    requires { ⌜ tolerance ≤ 1000 ⌝ }
+    ensures { λ r. ⌜ r .finding ≡ finding tolerance (pointsOf (now (points .entry))) (now (ring .entry)) ⌝ }
+    ensures { λ r. ⌜ r .part ≡ part (pointsOf (now (points .entry))) (now (ring .entry)) ⌝ }
+{
+    if ring.len() == 0 {
+        return Look {
+            finding: Finding::Short,
+            part: 0,
+        };
+    }
+    let n = normal(points, ring);
+    let first = ring[0];
+    let part = dot(n, place_of(points, first));
+    let finding = first_failing(points, ring, tolerance, n);
+    Look { finding, part }
 }

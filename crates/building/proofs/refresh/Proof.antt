@@ -43,11 +43,8 @@ part-ring-start c = search needs
 part-ring-end : tie.Need-part-ring-end
 part-ring-end c = search needs
 
-finding-of-requires : tie.Need-finding-of-requires
-finding-of-requires c κs = search needs
-
-part-of-requires : tie.Need-part-of-requires
-part-of-requires c κs = search needs
+look-at-requires : tie.Need-look-at-requires
+look-at-requires c κs = search needs
 
 finding-number-requires : tie.Need-finding-number-requires
 finding-number-requires c κs = search needs
@@ -65,8 +62,8 @@ returns : tie.Need-returns
 returns c =
     let a = c .before .before .before .before .before .before .before .args in
     record {
-      found = ap (λ (v : ℕ). set (a .findings .now) (a .p) v) (c .finding-number .ensures ∙ ap findingNumber (c .before .before .finding-of .ensures));
-      summed = ap (λ (z : ℤ). set (a .parts .now) (a .p) z) (call-is w64 (c .before .part-of .ok) (c .before .part-of .ensures));
+      found = ap (λ (v : ℕ). set (a .findings .now) (a .p) v) (c .finding-number .ensures ∙ ap findingNumber (c .before .before .look-at .ensures .0));
+      summed = ap (λ (z : ℤ). set (a .parts .now) (a .p) z) (call-is w64 (c .before .struct-told .given .1 .0 .1) (c .before .before .look-at .ensures .1));
     }
 
 pub refresh-spec : {M : Type 1} → statement M
@@ -84,8 +81,7 @@ refresh-spec =
     sub-ring
     part-ring-start
     part-ring-end
-    finding-of-requires
-    part-of-requires
+    look-at-requires
     finding-number-requires
     element-write-findings
     mul-part

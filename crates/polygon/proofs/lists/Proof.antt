@@ -1,37 +1,31 @@
--- `polygon::lists` meets its contract. The loop: what is left of the ring tells whether the number stands in it.
+-- `polygon::lists` meets its contract. The loop: what is found, and what is left of the ring, tell whether the number stands in it.
 use native.Mathlib.Omega.{arith}
-use mathlib.Core.Path.{_≡_, refl, sym, _∙_}
+use mathlib.Core.Path.{_≡_, refl, sym, ap, _∙_}
+use mathlib.Core.Bool.{Bool, _||_, or-false}
 use Prim.Native.Nat.{_≤_, _-_}
 use lib.ListN.{length, drop}
 use lib.Dec.{eqb}
-use borrow.Author.Tests.{eq-eqb, ne-eqb}
 use borrow.Author.Needs.{needs}
-use Rattle.whole.specs.Search.{any-here, any-next, any-end}
+use Rattle.whole.specs.Search.{any-end}
 use Rattle.whole.specs.Lists.{lists, any}
+use Rattle.polygon.proofs.Rings.{found-more}
 use Rattle.polygon.proofs.lists.Statement.{statement}
 use Rattle.polygon.proofs.lists.Tie as tie
 
 abbrev Inv-loop : tie.InvT-loop
-Inv-loop ring n k₀ k = (k ≤ length ring) × (any (eqb n) (drop k ring) ≡ any (eqb n) ring)
+Inv-loop ring n found₀ k₀ found k = (k ≤ length ring) × ((found || any (eqb n) (drop k ring)) ≡ any (eqb n) ring)
 
 abbrev μ-loop : tie.MeasureT-loop
-μ-loop ring n k₀ k = length ring - k
+μ-loop ring n found₀ k₀ found k = length ring - k
 
 loop-holds : tie.Need-loop-holds Inv-loop μ-loop
 loop-holds c = (omega arith, refl)
 
-mul-if1 : tie.Need-mul-if1 Inv-loop μ-loop
-mul-if1 c = search needs
+mul-found : tie.Need-mul-found Inv-loop μ-loop
+mul-found c = search needs
 
-shared-slice-read-if1 : tie.Need-shared-slice-read-if1 Inv-loop μ-loop
-shared-slice-read-if1 c = search needs
-
-returns : tie.Need-returns Inv-loop μ-loop
-unfolding lists
-returns c =
-    let l = c .before .before .before .loop in
-    let a = c .before .before .before .before .args in
-    sym (sym (l .inv .1) ∙ any-here (eqb (a .n)) (a .ring .now) (l .k) 0 (c .before .before .loop-test .taken) (eq-eqb (a .n) _ (c .if1 .taken)))
+shared-slice-read-found : tie.Need-shared-slice-read-found Inv-loop μ-loop
+shared-slice-read-found c = search needs
 
 add-k : tie.Need-add-k Inv-loop μ-loop
 add-k c = search needs
@@ -41,16 +35,16 @@ loop-less c = search needs
 
 loop-again : tie.Need-loop-again Inv-loop μ-loop
 loop-again c =
-    let l = c .before .before .before .loop in
-    let a = c .before .before .before .before .args in
-    (omega arith, sym (any-next (eqb (a .n)) (a .ring .now) (l .k) 0 (c .before .before .loop-test .taken) (ne-eqb (a .n) _ (c .if1 .left))) ∙ l .inv .1)
+    let l = c .before .before .loop in
+    let a = c .before .before .before .args in
+    (omega arith, found-more (eqb (a .n)) (a .ring .now) (l .k) (l .found) (c .before .loop-test .taken) (l .inv .1))
 
-returns-2 : tie.Need-returns-2 Inv-loop μ-loop
+returns : tie.Need-returns Inv-loop μ-loop
 unfolding lists
-returns-2 c =
+returns c =
     let l = c .before .loop in
     let a = c .before .before .args in
-    sym (sym (l .inv .1) ∙ any-end (eqb (a .n)) (a .ring .now) (l .k) (omega arith))
+    sym (or-false (l .found)) ∙ ap (λ (t : Bool). l .found || t) (sym (any-end (eqb (a .n)) (a .ring .now) (l .k) (omega arith))) ∙ l .inv .1
 
 pub lists-spec : {M : Type 1} → statement M
 lists-spec =
@@ -59,10 +53,9 @@ lists-spec =
     Inv-loop
     μ-loop
     loop-holds
-    mul-if1
-    shared-slice-read-if1
-    returns
+    mul-found
+    shared-slice-read-found
     add-k
     loop-less
     loop-again
-    returns-2)
+    returns)

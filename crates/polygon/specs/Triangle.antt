@@ -1,0 +1,215 @@
+-- A ring of four entries that passes 01 to 04 passes 05 and 06. Closed, it has three edges, each a neighbour of the other two;
+-- how far one turns off another in the plane that is left is N's component on the axis that is dropped, which is not 0
+-- since N is largest there; and all three points lie in one plane with the first.
+use Prim.Native.Nat.{ℕ, zero, suc, _≤_, _*_, max}
+use native.Mathlib.Omega.{arith}
+use mathlib.Core.Path.{_≡_, refl, sym, ap, _∙_, subst}
+use mathlib.Core.Bool.{Bool, true, false, cond, not, _&&_, true≢false}
+use mathlib.Core.List.{List, [], _∷_}
+use borrow.Author.Tests.{le-ltb, leb-true, leb-false, eqb-true, not-false}
+use lib.Dec.{eqb, leb, ltb}
+use lib.ListN.{length, getD}
+use lib.IntN.{ℤ, pos, negsuc, natAbs, _+ℤ_, _-ℤ_, _*ℤ_}
+use Rattle.whole.specs.Solve.{k, _⊕_, _⊖_, _⊗_, ring, _≔_}
+use Rattle.whole.specs.Lists.{any, anyTwo, steps, stepsFrom, numbered, numberedFrom, lastOf, sameZ}
+use Rattle.whole.specs.Search.{two-next}
+use Rattle.whole.specs.All.{none, more, none-any}
+use Rattle.polygon.specs.declared.Axis.{Axis}
+use Rattle.polygon.specs.declared.Axis.the-variants.{X, Y, Z}
+use Rattle.polygon.specs.Space.{Point, origin, plus, relativeTo, cross, dot, places}
+use Rattle.polygon.specs.Plane.{largestAxis, Spot, dropAxis, side, turnOff, shareMore}
+use Rattle.polygon.specs.Ring.{isUnclosed, relative, normal, isZero, follows, forbidden, edgesIn, isCrossed, size, isUneven}
+use Rattle.polygon.specs.Leaves.{at, on}
+
+-- three, and the first again
+abbrev round : {A : Type 0} → A → A → A → List A
+round a b c = a ∷ b ∷ c ∷ a ∷ []
+
+-- ---- in the plane that is left: a triangle of some area
+module _ (a b c : Spot) where
+  -- each edge turns off the one before it by twice the signed area
+  turn-second : turnOff (a, b) (b, c) ≡ side a b c
+  unfolding turnOff side
+  turn-second = go (a .u) (a .v) (b .u) (b .v) (c .u) (c .v)
+    where
+      go : (p q r s t w : ℤ) → (r -ℤ p) *ℤ (w -ℤ s) -ℤ (s -ℤ q) *ℤ (t -ℤ r) ≡ (r -ℤ p) *ℤ (w -ℤ q) -ℤ (s -ℤ q) *ℤ (t -ℤ p)
+      go = ring 6 (λ p q r s t w. (r ⊖ p) ⊗ (w ⊖ s) ⊖ (s ⊖ q) ⊗ (t ⊖ r) ≔ (r ⊖ p) ⊗ (w ⊖ q) ⊖ (s ⊖ q) ⊗ (t ⊖ p)) tt
+
+  -- the area is the same from wherever it is begun
+  side-round : side b c a ≡ side a b c
+  unfolding side
+  side-round = go (a .u) (a .v) (b .u) (b .v) (c .u) (c .v)
+    where
+      go : (p q r s t w : ℤ) → (t -ℤ r) *ℤ (q -ℤ s) -ℤ (w -ℤ s) *ℤ (p -ℤ r) ≡ (r -ℤ p) *ℤ (w -ℤ q) -ℤ (s -ℤ q) *ℤ (t -ℤ p)
+      go = ring 6 (λ p q r s t w. (t ⊖ r) ⊗ (q ⊖ s) ⊖ (w ⊖ s) ⊗ (p ⊖ r) ≔ (r ⊖ p) ⊗ (w ⊖ q) ⊖ (s ⊖ q) ⊗ (t ⊖ p)) tt
+
+  -- so it does not go back over it
+  no-more : sameZ (side a b c) (pos 0) ≡ false → shareMore (a, b) (b, c) ≡ false
+  unfolding shareMore
+  no-more e = rw (turn-second, e)
+
+-- of three, no two are related, if the first and the second are not, nor the first and the third, nor the second and the third
+three : {A : Type 0} (r : A → A → Bool) (x y z : A) → r x y ≡ false → r x z ≡ false → r y z ≡ false → anyTwo r (x ∷ y ∷ z ∷ []) ≡ false
+unfolding anyTwo any
+three r x y z p q s =
+    two-next r (x ∷ y ∷ z ∷ []) 0 x (omega arith) (none-any (r x) (y ∷ z ∷ []) (more p (more q none)))
+    ∙ two-next r (y ∷ z ∷ []) 0 x (omega arith) (none-any (r y) (z ∷ []) (more s none))
+
+uncrossed : (a b c : Spot) → sameZ (side a b c) (pos 0) ≡ false → isCrossed (steps (round a b c)) ≡ false
+unfolding isCrossed steps stepsFrom numbered numberedFrom forbidden follows
+uncrossed a b c e =
+    let f : sameZ (side b c a) (pos 0) ≡ false = ap (λ (z : ℤ). sameZ z (pos 0)) (side-round a b c) ∙ e in
+    let g : sameZ (side c a b) (pos 0) ≡ false = ap (λ (z : ℤ). sameZ z (pos 0)) (side-round b c a) ∙ f in
+    three (forbidden 3) (0, (a, b)) (1, (b, c)) (2, (c, a)) (no-more a b c e) (no-more c a b g) (no-more b c a f)
+
+-- ---- N of a triangle
+module _ (a b c : Point) where
+  -- the two steps from the first point and to it add nothing
+  normal-is : normal (round a b c) ≡ cross (relativeTo a b) (relativeTo a c)
+  unfolding normal relative steps stepsFrom relativeTo cross plus origin
+  normal-is =
+      λ i. at (go (a .y) (a .z) (b .y) (b .z) (c .y) (c .z) i) (go (a .z) (a .x) (b .z) (b .x) (c .z) (c .x) i) (go (a .x) (a .y) (b .x) (b .y) (c .x) (c .y) i)
+    where
+      go : (p q r s t w : ℤ) →
+          (p -ℤ p) *ℤ (s -ℤ q) -ℤ (q -ℤ q) *ℤ (r -ℤ p) +ℤ ((r -ℤ p) *ℤ (w -ℤ q) -ℤ (s -ℤ q) *ℤ (t -ℤ p) +ℤ ((t -ℤ p) *ℤ (q -ℤ q) -ℤ (w -ℤ q) *ℤ (p -ℤ p) +ℤ pos 0))
+          ≡ (r -ℤ p) *ℤ (w -ℤ q) -ℤ (s -ℤ q) *ℤ (t -ℤ p)
+      go = ring 6 (λ p q r s t w.
+          (p ⊖ p) ⊗ (s ⊖ q) ⊖ (q ⊖ q) ⊗ (r ⊖ p) ⊕ ((r ⊖ p) ⊗ (w ⊖ q) ⊖ (s ⊖ q) ⊗ (t ⊖ p) ⊕ ((t ⊖ p) ⊗ (q ⊖ q) ⊖ (w ⊖ q) ⊗ (p ⊖ p) ⊕ k (pos 0)))
+          ≔ (r ⊖ p) ⊗ (w ⊖ q) ⊖ (s ⊖ q) ⊗ (t ⊖ p)) tt
+
+  -- its component on an axis is twice the signed area in the plane left by dropping it
+  area-is : (axis : Axis) → side (dropAxis axis a) (dropAxis axis b) (dropAxis axis c) ≡ on axis (cross (relativeTo a b) (relativeTo a c))
+  unfolding side dropAxis cross relativeTo
+  area-is X = refl
+  area-is Y = refl
+  area-is Z = refl
+
+-- ---- N is not 0 where it is largest
+-- its component on the drop axis is as large as any
+largest-is : (n : Point) → size n ≤ natAbs (on (largestAxis n) n)
+unfolding largestAxis size
+largest-is n = go (leb y x) (leb z x) (leb z y) refl refl refl
+  where
+    x : ℕ
+    x = natAbs (n .x)
+
+    y : ℕ
+    y = natAbs (n .y)
+
+    z : ℕ
+    z = natAbs (n .z)
+
+    go : (p q r : Bool) → leb y x ≡ p → leb z x ≡ q → leb z y ≡ r → max x (max y z) ≤ natAbs (on (cond (p && q) X (cond r Y Z)) n)
+    go true true r e f g = omega (arith, leb-true y x e, leb-true z x f)
+    go true false true e f g = omega (arith, leb-true y x e, leb-false z x f, leb-true z y g)
+    go true false false e f g = omega (arith, leb-true y x e, leb-false z x f, leb-false z y g)
+    go false q true e f g = omega (arith, leb-false y x e, leb-true z y g)
+    go false q false e f g = omega (arith, leb-false y x e, leb-false z y g)
+
+zero-of : (z : ℤ) → natAbs z ≤ 0 → sameZ z (pos 0) ≡ true
+unfolding sameZ
+zero-of (pos zero) h = refl
+zero-of (pos (suc n)) h = absurd (omega arith)
+zero-of (negsuc n) h = absurd (omega arith)
+
+none-above : (z : ℤ) → sameZ z (pos 0) ≡ true → natAbs z ≡ 0
+unfolding sameZ
+none-above (pos n) e = eqb-true n 0 e
+none-above (negsuc n) e = absurd (true≢false (sym e))
+
+all-zero : (n : Point) → size n ≤ 0 → isZero n ≡ true
+unfolding size isZero
+all-zero n h = rw (zero-of (n .x) (omega arith), zero-of (n .y) (omega arith), zero-of (n .z) (omega arith))
+
+-- so where N is not 0, that component is not
+largest-some : (n : Point) → isZero n ≡ false → sameZ (on (largestAxis n) n) (pos 0) ≡ false
+largest-some n e = go (sameZ (on (largestAxis n) n) (pos 0)) refl
+  where
+    go : (t : Bool) → sameZ (on (largestAxis n) n) (pos 0) ≡ t → t ≡ false
+    go true f = absurd (true≢false (sym (all-zero n (omega (arith, largest-is n, none-above (on (largestAxis n) n) f))) ∙ e))
+    go false f = refl
+
+-- ---- N·(p - first) is 0 for each of the three points
+upright-own : (n p : Point) → dot n (relativeTo p p) ≡ pos 0
+unfolding dot relativeTo
+upright-own n p = go (n .x) (n .y) (n .z) (p .x) (p .y) (p .z)
+  where
+    go : (a b c p q r : ℤ) → a *ℤ (p -ℤ p) +ℤ b *ℤ (q -ℤ q) +ℤ c *ℤ (r -ℤ r) ≡ pos 0
+    go = ring 6 (λ a b c p q r. a ⊗ (p ⊖ p) ⊕ b ⊗ (q ⊖ q) ⊕ c ⊗ (r ⊖ r) ≔ k (pos 0)) tt
+
+upright-one : (p q : Point) → dot (cross p q) p ≡ pos 0
+unfolding dot cross
+upright-one p q = go (p .x) (p .y) (p .z) (q .x) (q .y) (q .z)
+  where
+    go : (a b c p q r : ℤ) → (b *ℤ r -ℤ c *ℤ q) *ℤ a +ℤ (c *ℤ p -ℤ a *ℤ r) *ℤ b +ℤ (a *ℤ q -ℤ b *ℤ p) *ℤ c ≡ pos 0
+    go = ring 6 (λ a b c p q r. (b ⊗ r ⊖ c ⊗ q) ⊗ a ⊕ (c ⊗ p ⊖ a ⊗ r) ⊗ b ⊕ (a ⊗ q ⊖ b ⊗ p) ⊗ c ≔ k (pos 0)) tt
+
+upright-other : (p q : Point) → dot (cross p q) q ≡ pos 0
+unfolding dot cross
+upright-other p q = go (p .x) (p .y) (p .z) (q .x) (q .y) (q .z)
+  where
+    go : (a b c p q r : ℤ) → (b *ℤ r -ℤ c *ℤ q) *ℤ p +ℤ (c *ℤ p -ℤ a *ℤ r) *ℤ q +ℤ (a *ℤ q -ℤ b *ℤ p) *ℤ r ≡ pos 0
+    go = ring 6 (λ a b c p q r. (b ⊗ r ⊖ c ⊗ q) ⊗ p ⊕ (c ⊗ p ⊖ a ⊗ r) ⊗ q ⊕ (a ⊗ q ⊖ b ⊗ p) ⊗ r ≔ k (pos 0)) tt
+
+-- which exceeds no tolerance
+abbrev far : ℕ → Point → Point → Bool
+far tolerance n p = ltb (tolerance * size n) (natAbs (dot n p))
+
+within : (tolerance : ℕ) (n p : Point) → dot n p ≡ pos 0 → far tolerance n p ≡ false
+within tolerance n p e = ap (λ (z : ℤ). ltb (tolerance * size n) (natAbs z)) e ∙ le-ltb (tolerance * size n) 0 (omega arith)
+
+-- ---- the two checks, of three points and the first again
+module _ (a b c : Point) where
+  crossed-none : isZero (normal (round a b c)) ≡ false → isCrossed (edgesIn (largestAxis (normal (round a b c))) (round a b c)) ≡ false
+  unfolding edgesIn
+  crossed-none e =
+      let n = normal (round a b c) in
+      let axis = largestAxis n in
+      uncrossed (dropAxis axis a) (dropAxis axis b) (dropAxis axis c) (ap (λ (z : ℤ). sameZ z (pos 0)) (area-is a b c axis ∙ ap (on axis) (sym (normal-is a b c))) ∙ largest-some n e)
+
+  uneven-none : (tolerance : ℕ) → isUneven tolerance (normal (round a b c)) (round a b c) ≡ false
+  unfolding isUneven relative
+  uneven-none tolerance =
+      let p = relativeTo a b in
+      let q = relativeTo a c in
+      ap (λ (n : Point). isUneven tolerance n (round a b c)) (normal-is a b c)
+      ∙ none-any (far tolerance (cross p q)) (relative (round a b c))
+      (more (own p q) (more (within tolerance (cross p q) p (upright-one p q)) (more (within tolerance (cross p q) q (upright-other p q)) (more (own p q) none))))
+    where
+      own : (p q : Point) → far tolerance (cross p q) (relativeTo a a) ≡ false
+      own p q = within tolerance (cross p q) (relativeTo a a) (upright-own (cross p q) a)
+
+-- ---- a closed ring of four entries
+record Corners (ps : List Point) : Type 0 where
+  a : Point
+  b : Point
+  c : Point
+  are : ps ≡ round a b c
+
+corners : (points : List Point) (ring : List ℕ) → length ring ≡ 4 → isUnclosed ring ≡ false → Corners (places points ring)
+unfolding isUnclosed lastOf places
+corners points [] e f = absurd (omega arith)
+corners points (a ∷ []) e f = absurd (omega arith)
+corners points (a ∷ b ∷ []) e f = absurd (omega arith)
+corners points (a ∷ b ∷ c ∷ []) e f = absurd (omega arith)
+corners points (a ∷ b ∷ c ∷ d ∷ []) e f =
+    let g : ℕ → Point = λ n. getD points n origin in
+    let same : d ≡ a = sym (eqb-true a d (not-false (eqb a d) f)) in
+    record { a = g a; b = g b; c = g c; are = ap (λ (x : ℕ). g a ∷ g b ∷ g c ∷ g x ∷ []) same }
+corners points (a ∷ b ∷ c ∷ d ∷ x ∷ l) e f = absurd (omega arith)
+
+module _ (points : List Point) (ring : List ℕ) (four : length ring ≡ 4) (closed : isUnclosed ring ≡ false) where
+  abbrev ps : List Point
+  ps = places points ring
+
+  -- 05 does not fail
+  pub triangle-uncrossed : isZero (normal ps) ≡ false → isCrossed (edgesIn (largestAxis (normal ps)) ps) ≡ false
+  triangle-uncrossed =
+      let k = corners points ring four closed in
+      subst (λ (l : List Point). isZero (normal l) ≡ false → isCrossed (edgesIn (largestAxis (normal l)) l) ≡ false) (sym (k .are)) (crossed-none (k .a) (k .b) (k .c))
+
+  -- 06 does not fail, at any tolerance
+  pub triangle-even : (tolerance : ℕ) → isUneven tolerance (normal ps) ps ≡ false
+  triangle-even tolerance =
+      let k = corners points ring four closed in
+      subst (λ (l : List Point). isUneven tolerance (normal l) l ≡ false) (sym (k .are)) (uneven-none (k .a) (k .b) (k .c) tolerance)
