@@ -17,7 +17,7 @@ use Rattle.building.specs.declared.Scalars.{Scalars}
 use Rattle.building.specs.declared.Verdict.{Verdict}
 use Rattle.building.specs.Tables.{Tables}
 use Rattle.building.specs.Report.{verdict, checkNumber, elementA, elementB}
-use Rattle.building.specs.Lists.{cases, upto}
+use Rattle.whole.specs.Stores.{cases, upto}
 use Rattle.building.specs.Holds.{Arrays}
 use Rattle.building.specs.Steps.{refind, repart}
 use Rattle.building.specs.Check.{EarlyAt}

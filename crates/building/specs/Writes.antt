@@ -16,7 +16,8 @@ use Rattle.places.specs.Points.{placed}
 use Rattle.building.specs.declared.Scalars.{Scalars}
 use Rattle.building.specs.Holds.{Arrays}
 use Rattle.building.specs.Rings.{turnedEntries}
-use Rattle.building.specs.Steps.{Looked, Checked, zeroed}
+use Rattle.building.specs.Steps.{Looked, Checked}
+use Rattle.whole.specs.Stores.{zeroed}
 use Rattle.building.specs.Check.{EarlyAt}
 
 -- the scalars after a correction: its number is the last
