@@ -9,6 +9,7 @@ use borrow.Author.Tests.{ltb-true, ltb-false, leb-true, le-leb, not-false}
 use lib.Dec.{ltb, leb, eqb}
 use lib.ListN.{length, getD, take, drop, length-append, length-drop}
 use lib.IntN.{ℤ, pos}
+use Rattle.whole.specs.Bools.{none-of}
 use Rattle.whole.specs.Lists.{tab, lastOf}
 use Rattle.whole.specs.Stores.{cases, upto-done, length-upto, zeroed}
 use Rattle.polygon.specs.Ring.{isShort, isUnclosed, isRepeated, finding, findingNumber, part}
@@ -78,12 +79,6 @@ module _ (l : List ℕ) (n : ℕ) where
       clash i n g h = omega arith
 
 -- ---- a ring that fails none of them is one that the shell's table takes
-none-of : (s u r : Bool) → (s || u || r) ≡ false → (s ≡ false) × (u ≡ false) × (r ≡ false)
-none-of false false false e = (refl, refl, refl)
-none-of false false true e = absurd (true≢false e)
-none-of false true r e = absurd (true≢false e)
-none-of true u r e = absurd (true≢false e)
-
 sound-of : (ring : List ℕ) → isBroken ring ≡ false → S.Sound ring
 unfolding isBroken isShort isUnclosed isRepeated
 sound-of [] e = absurd (true≢false (none-of (isShort []) (isUnclosed []) (isRepeated []) e .0))

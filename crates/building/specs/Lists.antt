@@ -10,6 +10,7 @@ use lib.Arith.{lt-of-le-ne}
 use borrow.Author.Tests.{ltb-true, ltb-false}
 use lib.ListN.{length, getD, take, drop, set, length-set, length-append, length-take, length-drop, length-reverse, List·getD-append}
 use lib.Seq.{sets, length-sets, sets-eq, drop-cons, getD-set-same, getD-set-other, take-at, drop-at, take-set-le, drop-set-lt, length-take-le, getD-take, getD-drop, take-append-seam, take-nil, take-suc, getD-at, set-at, set-append-left, set-comm, set-getD, ext-getD}
+use Rattle.whole.specs.Stores.{sets-append}
 use Rattle.whole.specs.Lists.{tab}
 use Rattle.whole.specs.Stores.{cases}
 use Rattle.shell.specs.Tabs.{length-tab, getD-tab}
@@ -100,11 +101,6 @@ module _ {A : Type 0} where
       rw (n, take-suc (drop a l) (e - a) d i, getD-drop a l (e - a) d, k)
 
   -- ---- runs of stores
-  pub sets-append : (xs ys l : List A) (a : ℕ) → sets (sets l a xs) (a + length xs) ys ≡ sets l a (xs ++ ys)
-  sets-append [] ys l a = rw add-zero
-  sets-append (x ∷ xs) ys l a =
-      ap (λ (n : ℕ). sets (sets (set l a x) (suc a) xs) n ys) (omega arith) ∙ sets-append xs ys (set l a x) (suc a)
-
   pub set-sets : (l vs : List A) (i j : ℕ) (v : A) → i + length vs ≤ j → set (sets l i vs) j v ≡ sets (set l j v) i vs
   set-sets l [] i j v h = refl
   set-sets l (x ∷ vs) i j v h =

@@ -11,7 +11,7 @@ use lib.IntN.{ℤ, pos, negsuc}
 use Rattle.frame.specs.Lines.{lines, ended}
 use Rattle.frame.specs.Offsets.{lineEnd}
 use Rattle.frame.specs.LineLaws.{end-above, end-inside, line-cut, lines-done}
-use Rattle.frame.specs.Room.{sets-append}
+use Rattle.whole.specs.Stores.{sets-append}
 use Rattle.frame.specs.Frame.{Frame, decode, numbers, polygon}
 use Rattle.whole.specs.Search.{drop-next, drop-end}
 use Rattle.polygon.specs.Held.{Coords}

@@ -15,7 +15,8 @@ use lib.Seq.{append-snoc, length-take-le, take-suc}
 use Rattle.frame.specs.Hex.{isHex, allHex, digitValue, numberFrom, number, signed32, digit, digits, bits32}
 use Rattle.frame.specs.Frame.{begin, point, polygon, end-of-load, move, turn, question, broken, Kind, kindOf, kindNamed, fits, unsigned, coordinate, numbers, filled, decode}
 use Rattle.frame.specs.Encode.{fourEach, eight, encode}
-use Rattle.frame.specs.RoundTrip.{numberFrom-append, and-left, and-right}
+use Rattle.whole.specs.Bools.{and-left, and-right}
+use Rattle.frame.specs.RoundTrip.{numberFrom-append}
 use Rattle.frame.specs.Digits.{or-cases, digit-is, allHex-cons, allHex-at, number-more}
 
 -- ---- digits

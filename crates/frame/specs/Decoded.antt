@@ -10,7 +10,8 @@ use lib.ListN.{length, take, drop, getD, length-drop}
 use lib.Seq.{drop-drop}
 use Rattle.frame.specs.Hex.{allHex, number, signed32}
 use Rattle.frame.specs.Frame.{Frame, begin, point, polygon, end-of-load, move, turn, question, broken, Kind, kindOf, kindNamed, fits, unsigned, coordinate, numbers, filled, decode}
-use Rattle.frame.specs.RoundTrip.{numbers-few, and-left, decode-well}
+use Rattle.whole.specs.Bools.{and-left}
+use Rattle.frame.specs.RoundTrip.{numbers-few, decode-well}
 use Rattle.frame.specs.declared.Fields.{Fields}
 use Rattle.frame.specs.declared.Fields.the-variants.{Begin, Point, Polygon, EndOfLoad, Move, Turn, Question, Broken}
 use Rattle.frame.specs.Meaning.{counted, meaning, Listed, shaped}

@@ -12,7 +12,8 @@ use lib.Dec.{ltb, leb}
 use lib.ListN.{length, take, drop, getD, length-drop, drop-of-length-le}
 use lib.Seq.{take-suc, getD-drop, drop-cons}
 use Rattle.frame.specs.Hex.{isHex, allHex, digitValue, numberFrom, number}
-use Rattle.frame.specs.RoundTrip.{numberFrom-append, and-left, and-right}
+use Rattle.whole.specs.Bools.{and-left, and-right}
+use Rattle.frame.specs.RoundTrip.{numberFrom-append}
 
 -- a line of digits has a field of k digits, a number of the machine, at an offset
 pub record HexField (l : List ℕ) (at k : ℕ) : Type 0 where

@@ -6,6 +6,7 @@ use mathlib.Core.Path.{_≡_, sym, ap, _∙_}
 use mathlib.Core.List.{List, [], _∷_, _++_}
 use lib.ListN.{length, set, length-append}
 use lib.Seq.{sets, set-comm}
+use Rattle.whole.specs.Stores.{sets-append}
 use Rattle.frame.specs.Hex.{digit, digits}
 use Rattle.frame.specs.RoundTrip.{length-digits}
 use Rattle.frame.specs.Lines.{ended}
@@ -24,12 +25,6 @@ module _ {A : Type 0} where
       ∙ ap (λ (m : List A). sets m (suc a) xs)
       (set-comm l a (suc a + length xs) x d (λ e. omega arith)
       ∙ ap (λ (n : ℕ). set (set l n d) a x) (omega arith))
-
-  -- two runs, one after the other, are one
-  pub sets-append : (xs ys l : List A) (a : ℕ) → sets (sets l a xs) (a + length xs) ys ≡ sets l a (xs ++ ys)
-  sets-append [] ys l a = rw add-zero
-  sets-append (x ∷ xs) ys l a =
-      ap (λ (n : ℕ). sets (sets (set l a x) (suc a) xs) n ys) (omega arith) ∙ sets-append xs ys (set l a x) (suc a)
 
 -- a turn of the loop that writes digits, the last first
 pub put-turn : (room : List ℕ) (at i w : ℕ) → 0 < i

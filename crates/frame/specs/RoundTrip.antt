@@ -9,6 +9,7 @@ use borrow.Author.Tests.{lt-ltb, le-ltb, le-leb, leb-true}
 use lib.Dec.{ltb}
 use lib.ListN.{length, drop, length-append, length-drop}
 use lib.IntN.{ℤ, pos, negsuc}
+use Rattle.whole.specs.Bools.{and-left, and-right}
 use Rattle.whole.specs.All.{All, none, more}
 use Rattle.frame.specs.Hex.{isHex, allHex, digitValue, numberFrom, number, signed32, digit, digits, bits32, hex-computes}
 use Rattle.frame.specs.Frame.{Frame, begin, point, polygon, end-of-load, move, turn, question, broken, Kind, kindOf, kindNamed, fits, unsigned, coordinate, numbers, filled, decode}
@@ -240,14 +241,6 @@ numbers-few (a ∷ []) = omega arith
 numbers-few (a ∷ b ∷ []) = omega arith
 numbers-few (a ∷ b ∷ c ∷ []) = omega arith
 numbers-few (a ∷ b ∷ c ∷ d ∷ l) = let h : 4 * length (numbers l) ≤ length l = numbers-few l in omega arith
-
-pub and-left : (a b : Bool) → (a && b) ≡ true → a ≡ true
-and-left true b e = refl
-and-left false b e = e
-
-pub and-right : (a b : Bool) → (a && b) ≡ true → b ≡ true
-and-right true b e = e
-and-right false b e = absurd (false≢true e)
 
 filled-well : (k : Kind) (l : List ℕ) → fits k (length l) ≡ true → WellFormed (filled k (drop 2 l))
 unfolding fits filled unsigned coordinate

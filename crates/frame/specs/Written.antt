@@ -8,7 +8,8 @@ use Rattle.frame.specs.Hex.{isHex, allHex}
 use Rattle.frame.specs.Lines.{lines, joined}
 use Rattle.frame.specs.Frame.{Frame}
 use Rattle.frame.specs.Encode.{encode}
-use Rattle.frame.specs.RoundTrip.{allHex-encode, and-left, and-right}
+use Rattle.whole.specs.Bools.{and-left, and-right}
+use Rattle.frame.specs.RoundTrip.{allHex-encode}
 use Rattle.frame.specs.Digits.{allHex-cons}
 use Rattle.frame.specs.LineLaws.{NoFeed, lines-joined}
 

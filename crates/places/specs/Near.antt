@@ -11,6 +11,7 @@ use lib.Seq.{getD-set-same, getD-set-other}
 use lib.IntN.{ℤ, pos, natAbs}
 use mir.Syntax.{w64}
 use mir.Val.{ofZ, toZ}
+use Rattle.whole.specs.Bools.{none-of}
 use Rattle.whole.specs.Size.{Small, small-back}
 use Rattle.whole.specs.Stores.{all-set}
 use Rattle.polygon.specs.Space.{Point}
@@ -32,12 +33,6 @@ near-place p e =
       y = record { small = ltb-false 100000 (natAbs (p .y)) (n .1) };
       z = record { small = ltb-false 100000 (natAbs (p .z)) (n .2) };
     }
-  where
-    none-of : (s u r : Bool) → (s || u || r) ≡ false → (s ≡ false) × (u ≡ false) × (r ≡ false)
-    none-of false false false e = (refl, refl, refl)
-    none-of false false true e = absurd (true≢false e)
-    none-of false true r e = absurd (true≢false e)
-    none-of true u r e = absurd (true≢false e)
 
 -- as the machine reads it
 pub near-bits : (x y z : ℤ) → isFar (point3 x y z) ≡ false → point3 (toZ w64 (ofZ w64 x)) (toZ w64 (ofZ w64 y)) (toZ w64 (ofZ w64 z)) ≡ point3 x y z

@@ -7,7 +7,7 @@ use lib.Signed.{ltZ, _≤ℤ_, _<ℤ_}
 use Rattle.whole.specs.Linear.{lin, _≼_, _≺_, _⇒_}
 use Rattle.whole.specs.Tests.{lt-yes, lt-no, lt-test, lt-le}
 use Rattle.polygon.specs.Plane.{under, overlap}
-use Rattle.polygon.specs.Meet.{and-left, and-right}
+use Rattle.whole.specs.Bools.{and-left, and-right}
 use Rattle.polygon.specs.Leaves.{least, most}
 
 -- ---- tests that say the same

@@ -14,7 +14,7 @@ use Rattle.whole.specs.Ring.{combine}
 use Rattle.whole.specs.Linear.{_≼_, _≺_, _≈_, never, _⇒_, _&_, lin}
 use Rattle.whole.specs.Tests.{three-ways, lt-le, square, mul-nonneg, mul-pos-pos, lt-yes, lt-test}
 use Rattle.polygon.specs.Plane.{Spot, turnOff, ahead, shareMore}
-use Rattle.polygon.specs.Meet.{and-left, and-right}
+use Rattle.whole.specs.Bools.{and-left, and-right}
 use Rattle.polygon.specs.Common.{along, CommonPoint}
 
 -- the neighbours from a to b and from b to c have a point in common that is not b

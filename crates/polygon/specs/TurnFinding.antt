@@ -7,9 +7,10 @@ use borrow.Author.Tests.{not-false, eqb-true, eq-eqb}
 use lib.Dec.{eqb, ltb, leb}
 use lib.ListN.{length, getD, length-reverse, length-map}
 use lib.IntN.{ℤ, pos, negsuc, negℤ, natAbs, _+ℤ_, _-ℤ_, _*ℤ_}
+use Rattle.whole.specs.Size.{abs-neg}
 use Rattle.whole.specs.Solve.{E, v, k, _⊕_, _⊖_, _⊗_, ⊝_, ring, _≔_}
 use Rattle.whole.specs.Lists.{given, first, any, anyTwo, steps, front, lastOf, numbered, sumOf, sameZ}
-use Rattle.whole.specs.Reverse.{any-reverse, anyTwo-reverse, anyTwo-map, anyTwo-same, counted, numbered-reverse, numbered-below, back, steps-reverse, anyTwo-turned}
+use Rattle.whole.specs.Reverse.{any-reverse, anyTwo-reverse, anyTwo-map, anyTwo-same, counted, numbered-reverse, numbered-below, back, steps-reverse, anyTwo-turned, map-reverseAux}
 use Rattle.polygon.specs.Space.{Point, origin, plus, relativeTo, cross, dot, places}
 use Rattle.polygon.specs.declared.Axis.{Axis}
 use Rattle.polygon.specs.declared.Finding.{Finding}
@@ -17,18 +18,13 @@ use Rattle.polygon.specs.declared.Finding.the-variants.{Sound, Short, Un
 use Rattle.polygon.specs.Plane.{largestAxis, Spot, dropAxis, Segment}
 use Rattle.polygon.specs.Ring.{isShort, isUnclosed, isRepeated, relative, normal, isZero, forbidden, edgesIn, isCrossed, size, isUneven, finding}
 use Rattle.polygon.specs.Laws.{eqb-sym}
-use Rattle.polygon.specs.Turn.{sum-reverse, firstOf, first-reverseAux, map-reverseAux, last-map}
+use Rattle.polygon.specs.Turn.{sum-reverse, firstOf, first-reverseAux, last-map}
 use Rattle.polygon.specs.PlaneTurn.{zero-neg, forbidden-back}
 
 -- ---- the opposite way
 
 opposite : Point → Point
 opposite n = record { x = negℤ (n .x); y = negℤ (n .y); z = negℤ (n .z) }
-
-abs-neg : (z : ℤ) → natAbs (negℤ z) ≡ natAbs z
-abs-neg (pos zero) = refl
-abs-neg (pos (suc n)) = refl
-abs-neg (negsuc n) = refl
 
 isZero-opposite : (n : Point) → isZero (opposite n) ≡ isZero n
 unfolding isZero opposite

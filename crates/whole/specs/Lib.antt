@@ -14,3 +14,4 @@ pub mod First
 pub mod Places
 pub mod Agree
 pub mod Stores
+pub mod Bools

@@ -2,13 +2,14 @@
 use Prim.Native.Nat.{ℕ, zero, suc, _+_, _≤_, _<_}
 use mathlib.Core.Path.{_≡_, refl, sym, ap, _∙_, subst}
 use mathlib.Core.Bool.{Bool, true, false}
-use mathlib.Core.List.{List}
+use mathlib.Core.List.{List, [], _∷_, _++_}
 use native.Mathlib.Omega.{arith}
 use native.Mathlib.Numerals.{add-one}
+use native.Mathlib.Nat.{add-zero}
 use lib.Dec.{ltb, eqb}
 use borrow.Author.Tests.{ltb-true, ltb-false, eqb-true, eqb-false}
 use lib.ListN.{length, getD, set, length-set}
-use lib.Seq.{getD-set-same, getD-set-other, set-out}
+use lib.Seq.{sets, getD-set-same, getD-set-other, set-out}
 
 pub cases : {X : Type 0} (b : Bool) → (b ≡ true → X) → (b ≡ false → X) → X
 cases true f g = f refl
@@ -66,3 +67,8 @@ module _ (l : List ℕ) where
 
   pub zeroed-length : (m : ℕ) {l' : List ℕ} → l' ≡ zeroed l m → length l' ≡ length l
   zeroed-length m e = ap length e ∙ length-upto (λ p old. 0) 0 l m
+
+-- two runs of stores, one after the other, are one
+pub sets-append : {A : Type 0} (xs ys l : List A) (a : ℕ) → sets (sets l a xs) (a + length xs) ys ≡ sets l a (xs ++ ys)
+sets-append [] ys l a = rw add-zero
+sets-append (x ∷ xs) ys l a = ap (λ (n : ℕ). sets (sets (set l a x) (suc a) xs) n ys) (omega arith) ∙ sets-append xs ys (set l a x) (suc a)
