@@ -1,16 +1,13 @@
 -- The size of a number, and the largest of three, as code finds them.
 use Prim.Native.Nat.{ℕ, suc, _+_, _≤_, _<_, _^_, max}
 use native.Mathlib.Omega.{arith}
-use mathlib.Core.Path.{_≡_, refl, sym, ap, ap₂, _∙_}
-use mathlib.Core.Bool.{Bool, true, false, cond, _&&_}
-use lib.Dec.{T, leb, ltb, eqb}
+use mathlib.Core.Path.{_≡_, refl, sym, ap, _∙_}
+use mathlib.Core.Bool.{Bool, true, false, cond}
+use lib.Dec.{T, ltb, eqb}
 use lib.IntN.{ℤ, pos, negsuc, natAbs, _-ℤ_, +ℤ-idl}
 use lib.Signed.{mag, _≤ℤ_, _<ℤ_}
 use Rattle.whole.specs.Solve.{k}
 use Rattle.whole.specs.Linear.{lin, _≺_, _⇒_, never}
-use Rattle.polygon.specs.declared.Axis.the-variants.{X, Y, Z}
-use Rattle.polygon.specs.Space.{Point}
-use Rattle.polygon.specs.Plane.{largestAxis}
 use Rattle.polygon.specs.Leaves.{most}
 use borrow.Author.Tests.{ltb-true, ltb-false, eq-eqb, ne-eqb, eqb-true, eqb-false}
 use mir.Syntax.{w64}
@@ -37,22 +34,6 @@ most-max a b = go (ltb b a) refl
     go : (t : Bool) → ltb b a ≡ t → cond t (pos a) (pos b) ≡ pos (max a b)
     go true e = ap pos (let h : b < a = ltb-true b a e in omega arith)
     go false e = ap pos (let h : a ≤ b = ltb-false b a e in omega arith)
-
--- ---- which axis the tests find
-module _ (n : Point) where
-  pub axis-x : (leb (natAbs (n .y)) (natAbs (n .x)) && leb (natAbs (n .z)) (natAbs (n .x))) ≡ true → largestAxis n ≡ X
-  unfolding largestAxis
-  axis-x e = ap (λ (t : Bool). cond t X (cond (leb (natAbs (n .z)) (natAbs (n .y))) Y Z)) e
-
-  axis-rest : (leb (natAbs (n .y)) (natAbs (n .x)) && leb (natAbs (n .z)) (natAbs (n .x))) ≡ false → {t : Bool} → leb (natAbs (n .z)) (natAbs (n .y)) ≡ t → largestAxis n ≡ cond t Y Z
-  unfolding largestAxis
-  axis-rest e f = ap₂ (λ (t u : Bool). cond t X (cond u Y Z)) e f
-
-  pub axis-y : (leb (natAbs (n .y)) (natAbs (n .x)) && leb (natAbs (n .z)) (natAbs (n .x))) ≡ false → leb (natAbs (n .z)) (natAbs (n .y)) ≡ true → largestAxis n ≡ Y
-  axis-y e f = axis-rest e f
-
-  pub axis-z : (leb (natAbs (n .y)) (natAbs (n .x)) && leb (natAbs (n .z)) (natAbs (n .x))) ≡ false → leb (natAbs (n .z)) (natAbs (n .y)) ≡ false → largestAxis n ≡ Z
-  axis-z e f = axis-rest e f
 
 -- ---- whether a number is 0, by its bits
 pub zero-test : {z : ℤ} → SFits w64 z → eqb (ofZ w64 z) 0 ≡ sameZ z (pos 0)

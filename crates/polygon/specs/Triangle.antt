@@ -3,8 +3,8 @@
 -- since N is largest there; and all three points lie in one plane with the first.
 use Prim.Native.Nat.{ℕ, zero, suc, _≤_, _*_, max}
 use native.Mathlib.Omega.{arith}
-use mathlib.Core.Path.{_≡_, refl, sym, ap, _∙_, subst}
-use mathlib.Core.Bool.{Bool, true, false, cond, not, _&&_, true≢false}
+use mathlib.Core.Path.{_≡_, refl, sym, ap, ap₂, _∙_, subst}
+use mathlib.Core.Bool.{Bool, true, false, _&&_, true≢false}
 use mathlib.Core.List.{List, [], _∷_}
 use borrow.Author.Tests.{le-ltb, leb-true, leb-false, eqb-true, not-false}
 use lib.Dec.{eqb, leb, ltb}
@@ -19,6 +19,7 @@ use Rattle.polygon.specs.declared.Axis.the-variants.{X, Y, Z}
 use Rattle.polygon.specs.Space.{Point, origin, plus, relativeTo, cross, dot, places}
 use Rattle.polygon.specs.Plane.{largestAxis, Spot, dropAxis, side, turnOff, shareMore}
 use Rattle.polygon.specs.Ring.{isUnclosed, relative, normal, isZero, follows, forbidden, edgesIn, isCrossed, size, isUneven}
+use Rattle.polygon.specs.Laws.{axis-x, axis-y, axis-z}
 use Rattle.polygon.specs.Leaves.{at, on}
 
 -- three, and the first again
@@ -87,7 +88,7 @@ module _ (a b c : Point) where
 -- ---- N is not 0 where it is largest
 -- its component on the drop axis is as large as any
 largest-is : (n : Point) → size n ≤ natAbs (on (largestAxis n) n)
-unfolding largestAxis size
+unfolding size
 largest-is n = go (leb y x) (leb z x) (leb z y) refl refl refl
   where
     x : ℕ
@@ -99,12 +100,15 @@ largest-is n = go (leb y x) (leb z x) (leb z y) refl refl refl
     z : ℕ
     z = natAbs (n .z)
 
-    go : (p q r : Bool) → leb y x ≡ p → leb z x ≡ q → leb z y ≡ r → max x (max y z) ≤ natAbs (on (cond (p && q) X (cond r Y Z)) n)
-    go true true r e f g = omega (arith, leb-true y x e, leb-true z x f)
-    go true false true e f g = omega (arith, leb-true y x e, leb-false z x f, leb-true z y g)
-    go true false false e f g = omega (arith, leb-true y x e, leb-false z x f, leb-false z y g)
-    go false q true e f g = omega (arith, leb-false y x e, leb-true z y g)
-    go false q false e f g = omega (arith, leb-false y x e, leb-false z y g)
+    by : (axis : Axis) → largestAxis n ≡ axis → max x (max y z) ≤ natAbs (on axis n) → max x (max y z) ≤ natAbs (on (largestAxis n) n)
+    by axis e h = subst (λ (a : Axis). max x (max y z) ≤ natAbs (on a n)) (sym e) h
+
+    go : (p q r : Bool) → leb y x ≡ p → leb z x ≡ q → leb z y ≡ r → max x (max y z) ≤ natAbs (on (largestAxis n) n)
+    go true true r e f g = by X (axis-x n (ap₂ _&&_ e f)) (omega (arith, leb-true y x e, leb-true z x f))
+    go true false true e f g = by Y (axis-y n (ap₂ _&&_ e f) g) (omega (arith, leb-true y x e, leb-false z x f, leb-true z y g))
+    go true false false e f g = by Z (axis-z n (ap₂ _&&_ e f) g) (omega (arith, leb-true y x e, leb-false z x f, leb-false z y g))
+    go false q true e f g = by Y (axis-y n (ap₂ _&&_ e f) g) (omega (arith, leb-false y x e, leb-true z y g))
+    go false q false e f g = by Z (axis-z n (ap₂ _&&_ e f) g) (omega (arith, leb-false y x e, leb-false z y g))
 
 zero-of : (z : ℤ) → natAbs z ≤ 0 → sameZ z (pos 0) ≡ true
 unfolding sameZ

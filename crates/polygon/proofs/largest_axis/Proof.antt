@@ -8,7 +8,8 @@ use lib.IntN.{pos, natAbs}
 use lib.Dec.{lit≤}
 use Rattle.whole.specs.Size.{back-small, small-more}
 use Rattle.polygon.specs.Leaves.{asPoint}
-use Rattle.polygon.proofs.Sizing.{size-back, axis-x, axis-y, axis-z}
+use Rattle.polygon.specs.Laws.{axis-x, axis-y, axis-z}
+use Rattle.polygon.proofs.Sizing.{size-back}
 use Rattle.polygon.proofs.largest_axis.Statement.{statement}
 use Rattle.polygon.proofs.largest_axis.Tie as tie
 
