@@ -6,6 +6,6 @@ mod Sizing
 mod Even
 mod Stretches
 mod Pairs
-mod Columns
+mod Filled
 mod Nearness
 mod Order

@@ -17,7 +17,7 @@ use Rattle.polygon.specs.Ring.{forbidden}
 use Rattle.polygon.specs.Leaves.{least, most, edgeAt, Spread}
 use Rattle.polygon.specs.Boxes.{ending, Line, Endings, Boxes, parted, Parted}
 use Rattle.whole.specs.Bools.{and-left, and-right}
-use Rattle.polygon.proofs.Columns.{copy-more}
+use Rattle.polygon.proofs.Filled.{copy-more}
 use Rattle.polygon.proofs.Stretches.{box-apart}
 use Rattle.polygon.proofs.Pairs.{edges, share-apart, clash-other, row-next}
 

@@ -1,0 +1,50 @@
+-- `building::turns::turn_polygon` meets its contract, by the law of a turn (`did-turned`).
+use mathlib.Core.Path.{refl}
+use Rattle.building.specs.Holds.{arrays}
+use Rattle.building.specs.Rings.{ring-of}
+use Rattle.building.specs.Turned.{did-turned}
+use borrow.Author.Needs.{needs}
+use Rattle.building.proofs.turns.turn_polygon.Statement.{statement}
+use Rattle.building.proofs.turns.turn_polygon.Tie as tie
+
+turn-ring-requires : tie.Need-turn-ring-requires
+turn-ring-requires c κs =
+    let s = c .before .before in
+    let h = s .pre .0 in
+    (h .loaded .coords, (ring-of (h .loaded) (s .args .n) (s .pre .1), (h .kept .summed .size, h .kept .summed .each (s .args .n) (s .pre .1))))
+
+mul-stamps : tie.Need-mul-stamps
+mul-stamps c = search needs
+
+element-write-stamps : tie.Need-element-write-stamps
+element-write-stamps c = search needs
+
+element-copy-out-turned : tie.Need-element-copy-out-turned
+element-copy-out-turned c = search needs
+
+sub-turned : tie.Need-sub-turned
+sub-turned c = c .before .before .before .before .pre .0 .kept .flags (c .before .before .before .before .args .n)
+
+element-write-turned : tie.Need-element-write-turned
+element-write-turned c = search needs
+
+returns : tie.Need-returns
+returns c =
+    let s = c .before .before .before .before in
+    let a = s .args in
+    let e = c .before .turn-ring .ensures in (
+      did-turned (arrays (a .points .now) (a .entries .now) (a .starts .now) (a .stamps .now) (a .findings .now) (a .parts .now) (a .table .now) (a .turned .now)) (a .s) (s .pre .0) (a .number) (a .n) (s .pre .1) (e .0) refl (e .1) refl,
+      record { entries = e .0; stamps = refl; parts = e .1; turned = refl; scalars = refl },
+    )
+
+pub turn-polygon-spec : {M : Type 1} → statement M
+turn-polygon-spec =
+    tie.close
+    (tie.spec
+    turn-ring-requires
+    mul-stamps
+    element-write-stamps
+    element-copy-out-turned
+    sub-turned
+    element-write-turned
+    returns)

@@ -1,0 +1,132 @@
+// A point moved: the polygons that list it looked at again and stamped.
+use super::Scalars;
+ghost use mathlib.Core.Path.{_≡_};
+ghost use mathlib.Core.Bool.{false};
+ghost use Prim.Native.Nat.{_<_, _≤_};
+ghost use lib.ListN.{length};
+ghost use Rattle.whole.specs.Lists.{lists};
+ghost use Rattle.polygon.specs.Held.{Coords};
+ghost use Rattle.places.specs.Points.{point3, isFar};
+ghost use Rattle.shell.specs.Held.{ringAt};
+ghost use Rattle.building.specs.Tables.{moved};
+ghost use Rattle.building.specs.Holds.{arrays, heldBuilding, Loaded, Held, Did};
+ghost use Rattle.building.specs.Rings.{Ring};
+ghost use Rattle.building.specs.Steps.{Touched, Looked};
+ghost use Rattle.building.specs.Writes.{MoveWrites};
+
+// Whether ring p lists point n.
+fn uses(entries: &[u16; 1024], starts: &[u16; 257], p: usize, n: u16) -> bool
+    requires { ⌜ Ring (now entries) (now starts) p ⌝ }
+    ensures { λ r. ⌜ r ≡ lists n (ringAt (now (entries .entry)) (now (starts .entry)) p) ⌝ }
+{
+    let from = starts[p] as usize;
+    let to = starts[p + 1] as usize;
+    let all = &entries[..];
+    polygon::lists(&all[from..to], n)
+}
+
+// Polygon p looked at again and stamped, if its ring lists point n.
+fn touch(
+    points: &[i64; 1536],
+    entries: &[u16; 1024],
+    starts: &[u16; 257],
+    stamps: &mut [u32; 256],
+    findings: &mut [u8; 256],
+    parts: &mut [i64; 256],
+    tolerance: u16,
+    p: usize,
+    n: u16,
+    number: u32,
+)
+    requires { ⌜ Coords (now points) ⌝ }
+    requires { ⌜ Ring (now entries) (now starts) p ⌝ }
+    requires { ⌜ (tolerance ≤ 1000) × ((length (now stamps) ≡ 256) × ((length (now findings) ≡ 256) × (length (now parts) ≡ 256))) ⌝ }
+    ensures { λ _. ⌜ Touched tolerance (now (points .entry)) (now (entries .entry)) (now (starts .entry)) number n p (now (stamps .entry)) (now (findings .entry)) (now (parts .entry)) (now (stamps .exit)) (now (findings .exit)) (now (parts .exit)) ⌝ }
+{
+    if uses(entries, starts, p, n) {
+        super::refresh(points, entries, starts, findings, parts, tolerance, p);
+        stamps[p] = number;
+    }
+}
+
+// All polygons looked at again whose rings list point n.
+fn look_again(
+    points: &[i64; 1536],
+    entries: &[u16; 1024],
+    starts: &[u16; 257],
+    stamps: &mut [u32; 256],
+    findings: &mut [u8; 256],
+    parts: &mut [i64; 256],
+    s: Scalars,
+    n: u16,
+    number: u32,
+)
+    requires { ⌜ Loaded (now points) (now entries) (now starts) s ⌝ }
+    requires { ⌜ (length (now stamps) ≡ 256) × ((length (now findings) ≡ 256) × (length (now parts) ≡ 256)) ⌝ }
+    ensures { λ _. ⌜ Looked (s .tolerance) (now (points .entry)) (now (entries .entry)) (now (starts .entry)) number n (s .polygons) (now (stamps .entry)) (now (findings .entry)) (now (parts .entry)) (now (stamps .exit)) (now (findings .exit)) (now (parts .exit)) ⌝ }
+{
+    let polygons = s.polygons;
+    let tolerance = s.tolerance;
+    let mut p = 0;
+    while p < polygons {
+        touch(
+            points,
+            entries,
+            starts,
+            stamps,
+            findings,
+            parts,
+            tolerance,
+            p,
+            n,
+            number,
+        );
+        p += 1;
+    }
+}
+
+// The point stands elsewhere, and the polygons that list it are stamped.
+pub fn move_point(
+    points: &mut [i64; 1536],
+    entries: &[u16; 1024],
+    starts: &[u16; 257],
+    stamps: &mut [u32; 256],
+    findings: &mut [u8; 256],
+    parts: &mut [i64; 256],
+    table: &[u64; 1024],
+    turned: &[u8; 256],
+    s: Scalars,
+    number: u32,
+    n: usize,
+    x: i64,
+    y: i64,
+    z: i64,
+) -> Scalars
+    requires { ⌜ Held (arrays (now points) (now entries) (now starts) (now stamps) (now findings) (now parts) (now table) (now turned)) s ⌝ }
+    requires { ⌜ n < s .points ⌝ }
+    requires { ⌜ isFar (point3 x y z) ≡ false ⌝ }
+    ensures { λ r. ⌜ Did (moved number n (point3 x y z) (heldBuilding (arrays (now (points .entry)) (now (entries .entry)) (now (starts .entry)) (now (stamps .entry)) (now (findings .entry)) (now (parts .entry)) (now (table .entry)) (now (turned .entry))) s)) (arrays (now (points .exit)) (now (entries .entry)) (now (starts .entry)) (now (stamps .exit)) (now (findings .exit)) (now (parts .exit)) (now (table .entry)) (now (turned .entry))) r ⌝ }
+    ensures { λ r. ⌜ MoveWrites (arrays (now (points .entry)) (now (entries .entry)) (now (starts .entry)) (now (stamps .entry)) (now (findings .entry)) (now (parts .entry)) (now (table .entry)) (now (turned .entry))) s number n (point3 x y z) (now (points .exit)) (now (stamps .exit)) (now (findings .exit)) (now (parts .exit)) r ⌝ }
+{
+    places::place(points, n, x, y, z);
+    look_again(
+        points,
+        entries,
+        starts,
+        stamps,
+        findings,
+        parts,
+        s,
+        n as u16,
+        number,
+    );
+    let fixed = s.fixed;
+    Scalars {
+        tolerance: s.tolerance,
+        points: s.points,
+        polygons: s.polygons,
+        last: number,
+        edges: s.edges,
+        fixed: fixed,
+    }
+}

@@ -1,0 +1,25 @@
+-- `polygon::boxes::clashes_eight` meets its contract. Where all boxes are parted there is nothing to find.
+use native.Mathlib.Omega.{arith}
+use borrow.Author.Needs.{needs}
+use Rattle.polygon.proofs.Nearness.{parted-row}
+use Rattle.polygon.proofs.boxes.clashes_eight.Statement.{statement}
+use Rattle.polygon.proofs.boxes.clashes_eight.Tie as tie
+
+eight-parted-requires : tie.Need-eight-parted-requires
+eight-parted-requires c κs = search needs
+
+returns : tie.Need-returns
+returns c =
+    let s = c .before .before in
+    let h = s .pre .1 .1 in
+    parted-row (s .pre .1 .0) (s .args .i) (h .0) (c .before .eight-parted .ensures) (c .if1 .taken) (h .1) (s .args .e) (omega arith) (omega arith) (omega arith)
+
+clashes-in-requires : tie.Need-clashes-in-requires
+clashes-in-requires c κs = search needs
+
+returns-2 : tie.Need-returns-2
+returns-2 c = search needs
+
+pub clashes-eight-spec : {M : Type 1} → statement M
+clashes-eight-spec =
+    tie.close (tie.spec eight-parted-requires returns clashes-in-requires returns-2)

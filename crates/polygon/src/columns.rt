@@ -1,0 +1,93 @@
+// Check 05: a ring's places in two columns, those of the plane left by dropping an axis.
+use super::Axis;
+use super::boxes;
+use super::plane;
+ghost use mathlib.Core.Path.{_≡_};
+ghost use Prim.Native.Nat.{_+_, _*_, _<_, _≤_};
+ghost use lib.ListN.{length, getD};
+ghost use lib.IntN.{pos};
+ghost use Rattle.whole.specs.Lists.{steps};
+ghost use Rattle.polygon.specs.Space.{places};
+ghost use Rattle.polygon.specs.Ring.{edgesIn, isCrossed};
+ghost use Rattle.polygon.specs.Held.{pointsOf, Coords, Known};
+ghost use Rattle.polygon.specs.Leaves.{Filled, seenSpots};
+
+// Coordinate k of point p.
+fn coordinate(points: &[i64; 1536], p: u16, k: usize) -> i64
+    requires { ⌜ Coords (now points) ⌝ }
+    requires { ⌜ (p < 512) × (k ≤ 2) ⌝ }
+    ensures { λ r. ⌜ r ≡ getD (now (points .entry)) (3 * p + k) (pos 0) ⌝ }
+{
+    let i = 3 * (p as usize) + k;
+    points[i]
+}
+
+// Coordinate k of the ring's entries, one after another, into lent room.
+fn fill(points: &[i64; 1536], ring: &[u16], k: usize, room: &mut [i64])
+    requires { ⌜ Coords (now points) ⌝ }
+    requires { ⌜ Known (now ring) ⌝ }
+    requires { ⌜ (k ≤ 2) × (length (now ring) ≤ length (now room)) ⌝ }
+    ensures { λ _. ⌜ Filled (now (points .entry)) (now (ring .entry)) k (length (now (room .entry))) (now (room .exit)) ⌝ }
+{
+    let mut i: usize = 0;
+    while i < ring.len() {
+        let x = coordinate(points, ring[i], k);
+        room[i] = x;
+        i += 1;
+    }
+}
+
+// 05 of a ring that fits small room, in the plane of coordinates j and k: most rings are such, and large room costs more to clear.
+fn crossed_few(points: &[i64; 1536], ring: &[u16], j: usize, k: usize) -> bool
+    requires { ⌜ Coords (now points) ⌝ }
+    requires { ⌜ Known (now ring) ⌝ }
+    requires { ⌜ (1 ≤ length (now ring)) × (length (now ring) ≤ 8) × (j ≤ 2) × (k ≤ 2) ⌝ }
+    ensures { λ r. ⌜ r ≡ isCrossed (steps (seenSpots (now (points .entry)) (now (ring .entry)) j k)) ⌝ }
+{
+    let mut us: [i64; 8] = [0; 8];
+    let mut vs: [i64; 8] = [0; 8];
+    fill(points, ring, j, &mut us);
+    fill(points, ring, k, &mut vs);
+    plane::crossings(&us, &vs, ring.len() - 1)
+}
+
+// 05 of any ring, in the plane of coordinates j and k.
+fn crossed_many(points: &[i64; 1536], ring: &[u16], j: usize, k: usize) -> bool
+    requires { ⌜ Coords (now points) ⌝ }
+    requires { ⌜ Known (now ring) ⌝ }
+    requires { ⌜ (2 ≤ length (now ring)) × (length (now ring) ≤ 128) × (j ≤ 2) × (k ≤ 2) ⌝ }
+    ensures { λ r. ⌜ r ≡ isCrossed (steps (seenSpots (now (points .entry)) (now (ring .entry)) j k)) ⌝ }
+{
+    let mut us: [i64; 128] = [0; 128];
+    let mut vs: [i64; 128] = [0; 128];
+    fill(points, ring, j, &mut us);
+    fill(points, ring, k, &mut vs);
+    boxes::crossings_many(&us, &vs, ring.len() - 1)
+}
+
+// 05 in the plane of coordinates j and k.
+fn crossed_in(points: &[i64; 1536], ring: &[u16], j: usize, k: usize) -> bool
+    requires { ⌜ Coords (now points) ⌝ }
+    requires { ⌜ Known (now ring) ⌝ }
+    requires { ⌜ (1 ≤ length (now ring)) × (j ≤ 2) × (k ≤ 2) ⌝ }
+    ensures { λ r. ⌜ r ≡ isCrossed (steps (seenSpots (now (points .entry)) (now (ring .entry)) j k)) ⌝ }
+{
+    if ring.len() <= 8 {
+        return crossed_few(points, ring, j, k);
+    }
+    crossed_many(points, ring, j, k)
+}
+
+// 05 in the plane left by dropping an axis.
+pub fn is_crossed(points: &[i64; 1536], ring: &[u16], axis: Axis) -> bool
+    requires { ⌜ Coords (now points) ⌝ }
+    requires { ⌜ Known (now ring) ⌝ }
+    requires { ⌜ 1 ≤ length (now ring) ⌝ }
+    ensures { λ r. ⌜ r ≡ isCrossed (edgesIn axis (places (pointsOf (now (points .entry))) (now (ring .entry)))) ⌝ }
+{
+    match axis {
+        Axis::X => crossed_in(points, ring, 1, 2),
+        Axis::Y => crossed_in(points, ring, 2, 0),
+        Axis::Z => crossed_in(points, ring, 0, 1),
+    }
+}
