@@ -49,17 +49,14 @@ module _ (a : Arrays) (s : Scalars) where
     pub built : s .polygons ≤ low → Built (a .entries) (a .starts) (s .polygons) (a .table) table' (r .edges) (r .fixed) × (r ≡ checked s (r .edges) (r .fixed))
 
   -- the one way, and the other
+  never : {i n : ℕ} → i < n → n ≤ i → ⊥
+  never h g = omega arith
+
   pub table-left : {low : ℕ} → low < s .polygons → TableWrites low (a .table) (checked s 0 Whole)
   table-left h = record { left = λ g. (refl, refl); built = λ g. absurd (never h g) }
-    where
-      never : {i n : ℕ} → i < n → n ≤ i → ⊥
-      never h g = omega arith
 
   pub table-built : {low edges : ℕ} {fixed : Shape} {table' : List ℕ} → s .polygons ≤ low → Built (a .entries) (a .starts) (s .polygons) (a .table) table' edges fixed → TableWrites low table' (checked s edges fixed)
   table-built h b = record { left = λ g. absurd (never g h); built = λ g. (b, refl) }
-    where
-      never : {i n : ℕ} → i < n → n ≤ i → ⊥
-      never h g = omega arith
 
   -- end of load: stamp and flag 0, finding and part of each polygon, and the edge table
   pub record LoadWrites (stamps' findings' : List ℕ) (parts' : List ℤ) (table' turned' : List ℕ) (r : Scalars) : Type 0 where
