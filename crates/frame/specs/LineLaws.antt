@@ -3,13 +3,14 @@ use Prim.Native.Nat.{ℕ, zero, suc, _+_, _-_, _≤_, _<_}
 use native.Mathlib.Omega.{arith}
 use native.Mathlib.Numerals.{add-one}
 use mathlib.Core.Path.{_≡_, refl, ap, _∙_}
-use mathlib.Core.Bool.{Bool, true, false, cond}
+use mathlib.Core.Bool.{Bool, true, false, cond, _||_}
 use mathlib.Core.List.{List, [], _∷_, _++_}
 use borrow.Author.Tests.{eq-eqb, ne-eqb, eqb-false}
 use lib.Dec.{eqb}
 use lib.ListN.{length, take, drop, getD, length-append, length-drop, drop-of-length-le}
 use lib.Seq.{drop-cons, drop-drop}
 use Rattle.whole.specs.All.{All, none, more}
+use Rattle.whole.specs.Bools.{or-left, or-right}
 use Rattle.frame.specs.Lines.{onFirst, putByte, lines, ended, joined}
 use Rattle.frame.specs.Offsets.{firstLine, lineEnd}
 
@@ -106,6 +107,14 @@ module _ (s : List ℕ) (i : ℕ) where
   pub end-past : length s ≤ i → lineEnd s i ≡ i
   unfolding lineEnd firstLine
   end-past h = rw (lines-done s i h) (omega arith)
+
+-- a turn of the loop that looks for a line feed among some bytes
+pub end-turn : (s : List ℕ) (at i : ℕ) (found : Bool) → at + i < length s → (found ≡ false → lineEnd s (at + i) ≡ lineEnd s at)
+    → (found || eqb (getD s (at + i) 0) 10) ≡ false → lineEnd s (at + (i + 1)) ≡ lineEnd s at
+end-turn s at i found h g e =
+    let a : at + (i + 1) ≡ at + i + 1 = omega arith in
+    let n : getD s (at + i) 0 ≡ 10 → ⊥ = eqb-false (getD s (at + i) 0) 10 (or-right found (eqb (getD s (at + i) 0) 10) e) in
+    rw a (end-byte s (at + i) h n ∙ g (or-left found (eqb (getD s (at + i) 0) 10) e))
 
 -- ---- counting lines
 

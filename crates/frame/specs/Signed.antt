@@ -1,10 +1,10 @@
 -- Laws of signed numbers as the machine has them: a coordinate from its 32 bits, the 64 bits of a number of an answer.
-use Prim.Native.Nat.{ℕ, zero, suc, _-_, _^_, _≤_, _<_}
+use Prim.Native.Nat.{ℕ, zero, suc, _+_, _-_, _%_, _^_, _≤_, _<_}
 use native.Mathlib.Omega.{arith}
 use native.Mathlib.Nat.{zero-add}
 use mathlib.Core.Path.{_≡_, refl, ap, _∙_}
 use mathlib.Core.Bool.{Bool, true, false, cond}
-use borrow.Author.Tests.{lt-ltb, le-ltb, ltb-true}
+use borrow.Author.Tests.{lt-ltb, le-ltb, ltb-true, ltb-false}
 use lib.Dec.{T, ltb}
 use lib.IntN.{ℤ, pos, negsuc, natAbs, _-ℤ_}
 use lib.Signed.{ltZ, mag, nonNeg}
@@ -53,28 +53,6 @@ module _ (z : ℤ) (fits : SFits w64 z) where
     pub back : toZ w64 (ofZ w64 (negsuc 0 -ℤ toZ w64 (ofZ w64 z))) ≡ pos (mag z)
     back = ap (λ (y : ℤ). toZ w64 (ofZ w64 y)) flipped ∙ toZ-pos w64 (fits .sfits)
 
--- 32 bits with the sign bit
-pub signed-neg : (v : ℕ) → 2147483648 ≤ v → v < 2 ^ 32 → toZ w64 (ofZ w64 (negsuc 0 -ℤ toZ w64 (4294967295 - v))) ≡ signed32 v
-unfolding signed32
-signed-neg v h g =
-    let m : 4294967295 - v < 2 ^ 63 = omega arith in
-    let p : toZ w64 (4294967295 - v) ≡ pos (4294967295 - v) = toZ-pos w64 m in
-    let f : SFits w64 (negsuc (4294967295 - v)) = record { sfits = m } in
-    rw (p, below, le-ltb v 2147483648 h) (toZ-ofZ f)
-
-pub signed-pos : (v : ℕ) → v < 2147483648 → toZ w64 v ≡ signed32 v
-unfolding signed32
-signed-pos v h =
-    let m : v < 2 ^ 63 = omega arith in
-    let p : toZ w64 v ≡ pos v = toZ-pos w64 m in
-    rw (p, lt-ltb v 2147483648 h)
-
-pub signed-fits : (v : ℕ) → 2147483648 ≤ v → v < 2 ^ 32 → SFits w64 (negsuc 0 -ℤ toZ w64 (4294967295 - v))
-signed-fits v h g =
-    let m : 4294967295 - v < 2 ^ 63 = omega arith in
-    let p : toZ w64 (4294967295 - v) ≡ pos (4294967295 - v) = toZ-pos w64 m in
-    rw (p, below) (record { sfits = m })
-
 signed-fits64 : (v : ℕ) → SFits w64 (signed32 v)
 unfolding signed32
 signed-fits64 v = go (ltb v (2 ^ 31)) refl
@@ -82,6 +60,35 @@ signed-fits64 v = go (ltb v (2 ^ 31)) refl
     go : (c : Bool) → ltb v (2 ^ 31) ≡ c → SFits w64 (cond c (pos v) (negsuc (2 ^ 32 - 1 - v)))
     go true e = record { sfits = omega (arith, ltb-true v (2 ^ 31) e) }
     go false e = record { sfits = omega arith }
+
+-- 32 bits with the sign bit: 2^31 more, within 32 bits, is 2^31 above the number
+module _ (v : ℕ) (g : v < 2 ^ 32) where
+  lifted : toZ w64 ((v + 2147483648) % 4294967296) -ℤ pos 2147483648 ≡ signed32 v
+  unfolding signed32
+  lifted = ap (λ (z : ℤ). z -ℤ pos 2147483648) (toZ-pos w64 m) ∙ go (ltb v (2 ^ 31)) refl
+    where
+      m : (v + 2147483648) % 4294967296 < 2 ^ 63
+      m = omega arith
+
+      go : (c : Bool) → ltb v (2 ^ 31) ≡ c → pos ((v + 2147483648) % 4294967296) -ℤ pos 2147483648 ≡ cond c (pos v) (negsuc (2 ^ 32 - 1 - v))
+      go true e =
+          let h : v < 2 ^ 31 = ltb-true v (2 ^ 31) e in
+          let d : (v + 2147483648) % 4294967296 ≡ v + 2147483648 = omega arith in
+          let f : v + 2147483648 - 2147483648 ≡ v = omega arith in
+          let k : 2147483648 ≤ v + 2147483648 = omega arith in
+          rw (d, le-ltb (v + 2147483648) 2147483648 k, f)
+      go false e =
+          let h : 2 ^ 31 ≤ v = ltb-false v (2 ^ 31) e in
+          let d : (v + 2147483648) % 4294967296 ≡ v - 2147483648 = omega arith in
+          let f : 2147483648 - suc (v - 2147483648) ≡ 2 ^ 32 - 1 - v = omega arith in
+          let k : v - 2147483648 < 2147483648 = omega arith in
+          rw (d, lt-ltb (v - 2147483648) 2147483648 k, f)
+
+  pub lifted-fits : SFits w64 (toZ w64 ((v + 2147483648) % 4294967296) -ℤ pos 2147483648)
+  lifted-fits = rw lifted (signed-fits64 v)
+
+  pub signed-lifted : toZ w64 (ofZ w64 (toZ w64 ((v + 2147483648) % 4294967296) -ℤ pos 2147483648)) ≡ signed32 v
+  signed-lifted = toZ-ofZ lifted-fits ∙ lifted
 
 -- a coordinate, as a called function hands it back
 pub signed-back : {r : ℤ} (v : ℕ) → r ≡ signed32 v → toZ w64 (ofZ w64 r) ≡ signed32 v

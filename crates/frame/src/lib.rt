@@ -4,7 +4,7 @@ mod hex;
 
 ghost use Prim.Native.Nat.{ℕ, _+_, _<_, _≤_};
 ghost use mathlib.Core.Path.{_≡_};
-ghost use mathlib.Core.Bool.{true};
+ghost use mathlib.Core.Bool.{true, false};
 ghost use lib.ListN.{length, drop, getD};
 ghost use lib.Seq.{sets};
 ghost use Rattle.frame.specs.Lines.{lines, ended};
@@ -28,11 +28,44 @@ pub enum Fields {
     Broken,
 }
 
+// Whether one of eight bytes is a line feed: a number known beforehand, so that they are tested at once.
+fn has_feed(stream: &[u8], at: usize) -> bool
+    requires { ⌜ at + 8 ≤ length (now stream) ⌝ }
+    ensures { λ r. ⌜ (r ≡ false → lineEnd (now (stream .entry)) (at + 8) ≡ lineEnd (now (stream .entry)) at) ⌝ }
+{
+    let mut found = false;
+    let mut i = 0;
+    while i < 8 {
+        let b = stream[at + i];
+        found = found | (b == 10);
+        i += 1;
+    }
+    found
+}
+
+// The offset itself, or one further on in its line, with whole eights of bytes that are no line feeds left behind.
+fn nearer(stream: &[u8], from: usize) -> usize
+    ensures { λ r. ⌜ lineEnd (now (stream .entry)) r ≡ lineEnd (now (stream .entry)) from ⌝ }
+{
+    if stream.len() < 8 {
+        return from;
+    }
+    let last = stream.len() - 8;
+    let mut i = from;
+    while i <= last {
+        if has_feed(stream, i) {
+            return i;
+        }
+        i += 8;
+    }
+    i
+}
+
 // Where the line that starts at an offset ends: at its line feed, or at the stream's end.
 pub fn line_end(stream: &[u8], from: usize) -> usize
     ensures { λ r. ⌜ r ≡ lineEnd (now (stream .entry)) from ⌝ }
 {
-    let mut i = from;
+    let mut i = nearer(stream, from);
     while i < stream.len() {
         if stream[i] == 10 {
             return i;

@@ -10,7 +10,7 @@ use lib.ListN.{length, getD, set, length-set}
 use lib.Seq.{getD-set-same}
 use Rattle.shell.specs.Reach.{start}
 use Rattle.shell.specs.Table.{stepOf, polyOf}
-use Rattle.shell.specs.Marking.{Marks, Marked, Blank, Pointed, Seeds, Cut, LeastBelow, Flooded, Joined, Joins, LowestBare, LowestCut}
+use Rattle.shell.specs.Marking.{Marks, Marked, Blank, Pointed, Seeds, Cut, LeastBelow, Spread, Joined, LowestBare, LowestCut}
 use Rattle.shell.proofs.Sweeps.{at-set, reach-map}
 
 -- what holds after i turns of `seeds`
@@ -164,7 +164,7 @@ seed-marks m s h b = record {
   bits = λ p. ⊎-elim (λ (w : (p ≡ s) × (getD (set m s 1) p 0 ≡ 1)). omega (arith, w .1)) (λ (w : (p ≢ s) × (getD (set m s 1) p 0 ≡ getD m p 0)). omega (arith, w .1, b .bare p)) (at-set m s 1 p (omega (arith, b .size)));
 }
 
-module _ (l m m′ : List ℕ) (n r : ℕ) (b : Blank m) (f : Flooded (Joins 0 0 l) (set m 0 1) m′) (u : LowestBare m′ n r) where
+module _ (l m m′ : List ℕ) (n r : ℕ) (b : Blank m) (f : Spread (Joined l polyOf) n (set m 0 1) m′) (u : LowestBare m′ n r) where
   only : (p : ℕ) → Marked (set m 0 1) p → p ≡ 0
   only p h = ⊎-elim (λ (w : (p ≡ 0) × (getD (set m 0 1) p 0 ≡ 1)). w .0) (λ (w : (p ≢ 0) × (getD (set m 0 1) p 0 ≡ getD m p 0)). absurd (bad (w .1))) (at-set m 0 1 p (omega (arith, b .size)))
     where
@@ -174,9 +174,9 @@ module _ (l m m′ : List ℕ) (n r : ℕ) (b : Blank m) (f : Flooded (Joins 0 0
   seeded : (p : ℕ) → p ≡ 0 → Marked (set m 0 1) p
   seeded p e = rw e (getD-set-same m 0 1 0 (omega (arith, b .size)))
 
-  pub lowest-of-flood : LowestCut l n r
-  lowest-of-flood = record {
+  pub lowest-of-spread : LowestCut l n r
+  lowest-of-spread = record {
     within = u .within;
-    before = λ k h. reach-map (λ q s. start (only q s)) (λ p q j. ⊎-elim (λ (x : Joined l polyOf p q). x) (λ (x : Joined l polyOf p q). x) j) (f .sound k (omega (arith, u .before k h, f .marks .bits k)));
-    cut = λ h c. omega (arith, u .bare h, f .whole r (reach-map (λ q s. start (seeded q s)) (λ p q j. inl j) c));
+    before = λ k h. reach-map (λ q s. start (only q s)) (λ p q j. j) (f .sound k (omega (arith, u .before k h, f .marks .bits k)));
+    cut = λ h c. omega (arith, u .bare h, f .whole r h (reach-map (λ q s. start (seeded q s)) (λ p q j. j) c));
   }

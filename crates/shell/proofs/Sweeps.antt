@@ -185,34 +185,6 @@ flood-none R m b = record {
   closed = λ z. absurd (suc-ne-zero 0 z);
 }
 
--- a round is two sweeps, along the one half of the steps and along the other
-module _ (R₁ R₂ : ℕ → ℕ → Type 0) (m₀ m m₁ m₂ : List ℕ) (r r₁ r₂ : ℕ) (f : Flooding (λ p q. R₁ p q ⊎ R₂ p q) m₀ m r) (a : Swept R₁ m m₁ r₁) (b : Swept R₂ m₁ m₂ r₂) where
-  first-zero : r₁ + r₂ ≡ 0 → r₁ ≡ 0
-  first-zero z = omega arith
-
-  second-zero : r₁ + r₂ ≡ 0 → r₂ ≡ 0
-  second-zero z = omega arith
-
-  sound₁ : (p : ℕ) → Marked m₁ p → Reach (Marked m₀) (λ p q. R₁ p q ⊎ R₂ p q) p
-  sound₁ p h = reach-map (f .sound) (λ a b l. inl l) (a .sound p h)
-
-  pub flood-more : Flooding (λ p q. R₁ p q ⊎ R₂ p q) m₀ m₂ (r₁ + r₂)
-  flood-more = record {
-    marks = b .marks;
-    grows = λ p h. b .grows p (a .grows p (f .grows p h));
-    sound = λ p h. reach-map sound₁ (λ a b l. inr l) (b .sound p h);
-    closed = λ z p q j. ⊎-elim (λ (k : R₁ p q). subst (λ (w : List ℕ). getD w p 0 ≡ getD w q 0) (sym (b .still (second-zero z))) (a .closed (first-zero z) p q k)) (λ (k : R₂ p q). b .closed (second-zero z) p q k) j;
-  }
-
-  -- a number that falls with each round but the last
-  pub flood-less : (r ≡ 0 → ⊥) → zeros m₂ * 3 + (r₁ + r₂) < zeros m * 3 + r
-  flood-less n = go (ℕ-discrete r₁ 0) (ℕ-discrete r₂ 0)
-    where
-      go : Dec (r₁ ≡ 0) → Dec (r₂ ≡ 0) → zeros m₂ * 3 + (r₁ + r₂) < zeros m * 3 + r
-      go (yes x) (yes y) = omega (arith, a .fewer, b .fewer)
-      go (yes x) (no y) = omega (arith, a .fewer, b .more y, a .flag, b .flag)
-      go (no x) y = omega (arith, a .more x, b .fewer, a .flag, b .flag)
-
 pub flooded : (R : ℕ → ℕ → Type 0) (m₀ m : List ℕ) (r : ℕ) → Flooding R m₀ m r → r ≡ 0 → Flooded R m₀ m
 flooded R m₀ m r f z = record { marks = f .marks; sound = f .sound; whole = λ p. whole }
   where

@@ -64,6 +64,10 @@ pub record Joined (l : List ℕ) (g : ℕ → ℕ) (p q : ℕ) : Type 0 where
 abbrev pub Joins : ℕ → ℕ → List ℕ → ℕ → ℕ → Type 0
 Joins low high l p q = Joined l (nodeOf low) p q ⊎ Joined l (nodeOf high) p q
 
+-- p and q are x and y, either way round
+abbrev pub Linked : ℕ → ℕ → ℕ → ℕ → Type 0
+Linked x y p q = ((x ≡ p) × (y ≡ q)) ⊎ ((y ≡ p) × (x ≡ q))
+
 abbrev pub Marked : List ℕ → ℕ → Type 0
 Marked m p = getD m p 0 ≡ 1
 
@@ -99,6 +103,12 @@ pub record Flooded (R : ℕ → ℕ → Type 0) (m₀ m : List ℕ) : Type 0 whe
   pub marks : Marks m
   pub sound : (p : ℕ) → Marked m p → Reach (Marked m₀) R p
   pub whole : (p : ℕ) → Reach (Marked m₀) R p → Marked m p
+
+-- the same of the nodes below n
+pub record Spread (R : ℕ → ℕ → Type 0) (n : ℕ) (m₀ m : List ℕ) : Type 0 where
+  pub marks : Marks m
+  pub sound : (p : ℕ) → Marked m p → Reach (Marked m₀) R p
+  pub whole : (p : ℕ) → p < n → Reach (Marked m₀) R p → Marked m p
 
 -- r is the lowest number below n that has no mark, or n
 pub record LowestBare (m : List ℕ) (n r : ℕ) : Type 0 where

@@ -1,6 +1,6 @@
 -- `line_end` meets its contract. The invariant: the line that starts at `i` ends where the one that starts at `from` does.
 use Prim.Native.Nat.{_-_}
-use mathlib.Core.Path.{_≡_, refl, sym, _∙_}
+use mathlib.Core.Path.{_≡_, sym, _∙_}
 use borrow.Author.Needs.{needs}
 use lib.ListN.{length}
 use Rattle.frame.specs.Offsets.{lineEnd}
@@ -14,8 +14,11 @@ Inv-loop stream from i₀ i = lineEnd stream i ≡ lineEnd stream from
 abbrev μ-loop : tie.MeasureT-loop
 μ-loop stream from i₀ i = length stream - i
 
+nearer-requires : tie.Need-nearer-requires Inv-loop μ-loop
+nearer-requires c κs = search needs
+
 loop-holds : tie.Need-loop-holds Inv-loop μ-loop
-loop-holds c = refl
+loop-holds c = c .nearer .ensures
 
 shared-slice-read-if1 : tie.Need-shared-slice-read-if1 Inv-loop μ-loop
 shared-slice-read-if1 c = search needs
@@ -41,6 +44,7 @@ line-end-spec =
     (tie.spec
     Inv-loop
     μ-loop
+    nearer-requires
     loop-holds
     shared-slice-read-if1
     returns

@@ -1,30 +1,28 @@
--- `digit_of` meets its contract.
-use borrow.Author.Tests.{lt-ltb, le-ltb}
+-- `digit_of` meets its contract: 7 more from 10 on.
+use native.Mathlib.Omega.{arith}
+use Rattle.frame.specs.Digits.{digit-by}
 use borrow.Author.Needs.{needs}
-use Rattle.frame.specs.Hex.{digit}
 use Rattle.frame.proofs.hex.digit_of.Statement.{statement}
 use Rattle.frame.proofs.hex.digit_of.Tie as tie
 
 add-result : tie.Need-add-result
 add-result c = search needs
 
-cast-result : tie.Need-cast-result
-cast-result c = search needs
-
 add-result-2 : tie.Need-add-result-2
 add-result-2 c = search needs
 
-cast-result-2 : tie.Need-cast-result-2
-cast-result-2 c = search needs
+mul-result : tie.Need-mul-result
+mul-result c = search needs
+
+add-result-3 : tie.Need-add-result-3
+add-result-3 c = search needs
+
+cast-result : tie.Need-cast-result
+cast-result c = search needs
 
 returns : tie.Need-returns
-unfolding digit
-returns c = simp (lt-ltb _ _ (c .if1 .taken))
-
-returns-2 : tie.Need-returns-2
-unfolding digit
-returns-2 c = simp (le-ltb _ _ (c .if1 .left))
+returns c = digit-by (c .args .n) (c .pre)
 
 pub digit-of-spec : {M : Type 1} → statement M
 digit-of-spec =
-    tie.close (tie.spec add-result cast-result add-result-2 cast-result-2 returns returns-2)
+    tie.close (tie.spec add-result add-result-2 mul-result add-result-3 cast-result returns)

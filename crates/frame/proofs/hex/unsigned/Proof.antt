@@ -1,73 +1,27 @@
--- `unsigned` meets its contract. The invariant: `v` is the number of the first `i` digits of the field.
-use Prim.Native.Nat.{_≤_, _<_, _-_, _^_}
-use native.Mathlib.Omega.{arith}
-use mathlib.Core.Path.{_≡_}
+-- `unsigned` meets its contract: whichever way the field is read.
 use borrow.Author.Needs.{needs}
-use lib.ListN.{take, drop}
-use Rattle.frame.specs.Hex.{number, numberFrom}
-use Rattle.frame.specs.Digits.{number-turn, number-more, number-fits, allHex-at}
 use Rattle.frame.proofs.hex.unsigned.Statement.{statement}
 use Rattle.frame.proofs.hex.unsigned.Tie as tie
 
-abbrev Inv-loop : tie.InvT-loop
-Inv-loop line at k v₀ i₀ v i = (i ≤ k) × ((v ≡ number (take i (drop at line))) × (v < 16 ^ i))
+eight-requires : tie.Need-eight-requires
+eight-requires c κs = search needs
 
-abbrev μ-loop : tie.MeasureT-loop
-μ-loop line at k v₀ i₀ v i = k - i
+returns : tie.Need-returns
+returns c = rw (c .before .if1 .taken) (c .eight .ensures)
 
-loop-holds : tie.Need-loop-holds Inv-loop μ-loop
-unfolding number numberFrom
-loop-holds c = search needs
+four-requires : tie.Need-four-requires
+four-requires c κs = search needs
 
-mul-v : tie.Need-mul-v Inv-loop μ-loop
-mul-v c = omega (arith, number-fits (c .before .loop .i) (c .before .loop .v) (omega arith) (c .before .loop .inv .1 .1))
+returns-2 : tie.Need-returns-2
+returns-2 c = rw (c .before .if2 .taken) (c .four .ensures)
 
-add-digit-value : tie.Need-add-digit-value Inv-loop μ-loop
-add-digit-value c = search needs
+each-digit-requires : tie.Need-each-digit-requires
+each-digit-requires c κs = search needs
 
-shared-slice-read-digit-value : tie.Need-shared-slice-read-digit-value Inv-loop μ-loop
-shared-slice-read-digit-value c = search needs
-
-digit-value-requires : tie.Need-digit-value-requires Inv-loop μ-loop
-digit-value-requires c κs = allHex-at _ _ (c .before .before .before .before .pre .hex) (omega arith)
-
-add-v : tie.Need-add-v Inv-loop μ-loop
-add-v c =
-    let l = c .before .before .before .loop in
-    omega (arith, number-fits (l .i) (l .v) (omega arith) (l .inv .1 .1))
-
-add-i : tie.Need-add-i Inv-loop μ-loop
-add-i c = search needs
-
-loop-less : tie.Need-loop-less Inv-loop μ-loop
-loop-less c = search needs
-
-loop-again : tie.Need-loop-again Inv-loop μ-loop
-loop-again c =
-    let l = c .before .before .before .loop in
-    let a = c .before .before .before .before .before .args in
-    let p = c .before .before .before .before .before .pre in
-    let e = number-turn (a .line .now) (a .at) (l .i) (omega arith) in
-    (omega arith, (rw (e, ← l .inv .1 .0, c .digit-value .ensures .0), number-more (l .i) (l .v) (c .digit-value .result) (l .inv .1 .1) (c .digit-value .ensures .1)))
-
-returns : tie.Need-returns Inv-loop μ-loop
-returns c =
-    let e : c .before .loop .i ≡ c .before .before .before .args .k = omega arith in
-    rw e at (c .before .loop .inv .1)
+returns-3 : tie.Need-returns-3
+returns-3 c = search needs
 
 pub unsigned-spec : {M : Type 1} → statement M
 unsigned-spec =
     tie.close
-    (tie.spec
-    Inv-loop
-    μ-loop
-    loop-holds
-    mul-v
-    add-digit-value
-    shared-slice-read-digit-value
-    digit-value-requires
-    add-v
-    add-i
-    loop-less
-    loop-again
-    returns)
+    (tie.spec eight-requires returns four-requires returns-2 each-digit-requires returns-3)
