@@ -1,4 +1,4 @@
-// Compares the plain baseline, the tuned one and, where it is linked, the checker on random and damaged streams; every byte
+// Compares the plain baseline, the tuned one and, where they are linked, the AVX-512 one and the checker on random and damaged streams; every byte
 // of the room is compared, past the answer too. Usage: agree [count [first seed]]
 #include "baselines.h"
 #include "streams.hpp"
@@ -46,6 +46,9 @@ int main(int argc, char **argv) {
         const std::size_t room = r.one_in(50) ? enough - std::min<std::size_t>(enough, 1) : enough + static_cast<std::size_t>(r.below(40));
         const Outcome plain = ask(framecheck_plain_answer, stream, room);
         bool agree = same(plain, ask(framecheck_tuned_answer, stream, room));
+#ifdef WITH_AVX512
+        agree = agree && same(plain, ask(framecheck_avx512_answer, stream, room));
+#endif
 #ifdef WITH_CHECKER
         agree = agree && same(plain, ask(checker_answer, stream, room));
 #endif

@@ -1,4 +1,4 @@
-// The two C++ baselines behind the checker's own C interface: same arguments, same answer bytes.
+// The C++ baselines behind the checker's own C interface: same arguments, same answer bytes.
 #ifndef FRAMECHECK_BASELINES_H
 #define FRAMECHECK_BASELINES_H
 
@@ -14,6 +14,10 @@ std::int64_t framecheck_plain_answer(const std::uint8_t *stream, std::size_t str
 // Keeps findings, parts and the shape between reports; no heap, boxes before exact tests, table-driven decoding.
 std::int64_t framecheck_tuned_answer(const std::uint8_t *stream, std::size_t stream_len, std::uint8_t *room,
                                      std::size_t room_len);
+
+// Loads of sound buildings by hand-written AVX-512, all else by the plain one; only on a processor that has it, one call at a time.
+std::int64_t framecheck_avx512_answer(const std::uint8_t *stream, std::size_t stream_len, std::uint8_t *room,
+                                      std::size_t room_len);
 }
 
 #endif

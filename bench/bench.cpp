@@ -1,5 +1,6 @@
-// Times the checker beside the two baselines on nine buildings, in one run, and measures the stack. No time is printed unless
-// all three agree on every answer byte of every stream that is timed. Usage: bench NAME [samples], NAME of what is linked.
+// Times the checker beside the baselines on nine buildings, in one run, whole and by stages, and measures the stack. No time is
+// printed unless all agree on every answer byte of every stream that is timed. Usage: bench NAME [samples], NAME of what is linked.
+// The AVX-512 baseline takes part where it is built in (WITH_AVX512): it is timed on loads alone, since it keeps nothing.
 #include "baselines.h"
 #include "framecheck.h"
 #include "streams.hpp"
@@ -50,6 +51,19 @@ Case make_case(const streams::Model &m, bool corrected) {
     return {m.name, corrected ? streams::with_corrections(m) : streams::load(m), m.points.size(), m.rings.size(), entries};
 }
 
+// A building's stream as it grows: begin and points, the polygons too, the end of load too, and 300 frames more.
+struct Stages {
+    std::string name;
+    std::vector<std::string> streams;
+};
+
+Stages make_stages(const streams::Model &m) {
+    std::string points = streams::begin(m.tolerance), polygons;
+    for (const auto &p : m.points) points += streams::point(p);
+    for (const auto &ring : m.rings) polygons += streams::polygon(ring);
+    return {m.name, {points, points + polygons, streams::load(m), streams::with_corrections(m)}};
+}
+
 std::size_t lines_of(const std::string &s) { return framecheck_lines(reinterpret_cast<const std::uint8_t *>(s.data()), s.size()); }
 
 std::vector<std::uint8_t> answers(Entry entry, const std::string &stream) {
@@ -61,8 +75,16 @@ std::vector<std::uint8_t> answers(Entry entry, const std::string &stream) {
 
 const std::vector<Entry> all_three{checker_answer, framecheck_plain_answer, framecheck_tuned_answer};
 
+#ifdef WITH_AVX512
+const std::vector<Entry> loaders{checker_answer, framecheck_tuned_answer, framecheck_avx512_answer};
+#else
+const std::vector<Entry> loaders{checker_answer, framecheck_tuned_answer};
+#endif
+
 void must_agree(const Case &c) {
-    for (Entry entry : all_three) {
+    std::vector<Entry> every = all_three;
+    every.push_back(loaders.back());
+    for (Entry entry : every) {
         if (answers(entry, c.stream) == answers(checker_answer, c.stream)) continue;
         std::printf("bench: the answers to '%s' differ; no time is printed\n", c.name.c_str());
         std::exit(1);
@@ -85,38 +107,85 @@ double once(Entry entry, const std::string &stream, std::vector<std::uint8_t> &r
     return (seconds() - start) / calls;
 }
 
-// Medians in seconds of one whole call of each entry. The entries take turns, so that a machine whose pace changes slows all
-// alike; a sample is 100 microseconds of calls or one call, and an entry gets two seconds at most.
-std::vector<double> medians(const std::vector<Entry> &entries, const std::string &stream, int samples) {
-    std::vector<std::uint8_t> room(std::max<std::size_t>(33 * lines_of(stream), stream.size()));
+double median(std::vector<double> times) {
+    const auto middle = times.begin() + static_cast<std::ptrdiff_t>(times.size() / 2);
+    std::nth_element(times.begin(), middle, times.end());
+    return *middle;
+}
+
+// Times in seconds of whole calls, one list for each entry and stream. They take turns, so that a machine whose pace changes slows
+// all alike; a sample is 100 microseconds of calls or one call, and each gets two seconds at most.
+struct Timed {
+    Entry entry;
+    std::string stream;
+};
+
+std::vector<std::vector<double>> samples_of(const std::vector<Timed> &timed, int samples) {
+    std::size_t most = 0;
+    for (const auto &t : timed) most = std::max({most, 33 * lines_of(t.stream), t.stream.size()});
+    std::vector<std::uint8_t> room(most);
     std::vector<int> calls, wanted;
-    for (Entry entry : entries) {
-        const double first = std::max(1e-8, std::min(once(entry, stream, room, 1), once(entry, stream, room, 1)));
+    for (const auto &t : timed) {
+        const double first = std::max(1e-8, std::min(once(t.entry, t.stream, room, 1), once(t.entry, t.stream, room, 1)));
         calls.push_back(std::max(1, static_cast<int>(100e-6 / first)));
         wanted.push_back(std::max(5, std::min(samples, static_cast<int>(2.0 / (first * calls.back())))));
     }
-    std::vector<std::vector<double>> times(entries.size());
+    std::vector<std::vector<double>> times(timed.size());
     for (int s = 0; s < samples; s++)
-        for (std::size_t e = 0; e < entries.size(); e++)
-            if (s < wanted[e]) times[e].push_back(once(entries[e], stream, room, calls[e]));
+        for (std::size_t e = 0; e < timed.size(); e++)
+            if (s < wanted[e]) times[e].push_back(once(timed[e].entry, timed[e].stream, room, calls[e]));
+    return times;
+}
+
+std::vector<double> medians(const std::vector<Entry> &entries, const std::string &stream, int samples) {
+    std::vector<Timed> timed;
+    for (Entry entry : entries) timed.push_back({entry, stream});
     std::vector<double> result;
-    for (auto &t : times) {
-        const auto middle = t.begin() + static_cast<std::ptrdiff_t>(t.size() / 2);
-        std::nth_element(t.begin(), middle, t.end());
-        result.push_back(*middle);
-    }
+    for (auto &times : samples_of(timed, samples)) result.push_back(median(std::move(times)));
     return result;
 }
 
-void table(const char *title, const char *linked, const std::vector<Case> &cases, int samples) {
+void table(const char *title, const char *linked, const std::vector<Case> &cases, int samples, bool loads) {
     std::printf("\n%s; microseconds a call\n", title);
-    std::printf("%-20s %6s %5s %5s %5s | %9s %9s %9s %8s | %7s %7s %7s\n", "building", "bytes", "lines", "polyg", "entr", linked,
-                "plain", "tuned", "decode", "/plain", "/tuned", "/decode");
+    std::printf("%-20s %6s %5s %5s %5s | %9s %9s %9s %8s %8s | %7s %7s %8s %7s\n", "building", "bytes", "lines", "polyg", "entr", linked,
+                "plain", "tuned", "avx512", "decode", "/plain", "/tuned", "/avx512", "/decode");
     for (const auto &c : cases) {
-        const auto t = medians({checker_answer, framecheck_plain_answer, framecheck_tuned_answer, decode_floor}, c.stream, samples);
-        std::printf("%-20s %6zu %5zu %5zu %5zu | %9.2f %9.2f %9.2f %8.2f | %7.3f %7.2f %7.2f\n", c.name.c_str(), c.stream.size(),
-                    lines_of(c.stream), c.polygons, c.entries, t[0] * 1e6, t[1] * 1e6, t[2] * 1e6, t[3] * 1e6, t[0] / t[1], t[0] / t[2],
-                    t[0] / t[3]);
+        std::vector<Entry> entries{checker_answer, framecheck_plain_answer, framecheck_tuned_answer, decode_floor};
+        const bool third = loads && loaders.size() == 3;
+        if (third) entries.push_back(loaders[2]);
+        const auto t = medians(entries, c.stream, samples);
+        std::printf("%-20s %6zu %5zu %5zu %5zu | %9.2f %9.2f %9.2f", c.name.c_str(), c.stream.size(), lines_of(c.stream), c.polygons,
+                    c.entries, t[0] * 1e6, t[1] * 1e6, t[2] * 1e6);
+        if (third) std::printf(" %8.2f", t[4] * 1e6);
+        else std::printf(" %8s", "-");
+        std::printf(" %8.2f | %7.3f %7.2f", t[3] * 1e6, t[0] / t[1], t[0] / t[2]);
+        if (third) std::printf(" %8.2f", t[0] / t[4]);
+        else std::printf(" %8s", "-");
+        std::printf(" %7.2f\n", t[0] / t[3]);
+    }
+}
+
+// What each stage of a stream adds to the call before it: the median of the differences within a round.
+void stages(const char *linked, const std::vector<Stages> &buildings, int samples) {
+    const std::vector<double> empty = medians(loaders, "", samples);
+    std::printf("\nstages, nanoseconds that each adds: %s, tuned%s; an empty call %.0f, %.0f", linked,
+                loaders.size() == 3 ? ", avx512 (loads alone)" : "", empty[0] * 1e9, empty[1] * 1e9);
+    if (loaders.size() == 3) std::printf(", %.0f", empty[2] * 1e9);
+    std::printf("\n%-20s | %-24s | %-24s | %-24s | %-16s\n", "building", "begin and points", "polygons", "checks", "300 frames more");
+    for (const auto &b : buildings) {
+        std::vector<Timed> timed;
+        for (const auto &stream : b.streams)
+            for (Entry entry : loaders) timed.push_back({entry, stream});
+        timed.resize(timed.size() - (loaders.size() - 2)); // the last stage is for programs that keep values
+        const auto times = samples_of(timed, samples);
+        std::printf("%-20s", b.name.c_str());
+        for (std::size_t i = 0; i < timed.size(); i++) {
+            std::vector<double> added;
+            for (std::size_t s = 0; s < times[i].size(); s++)
+                added.push_back(times[i][s] - (i < loaders.size() || s >= times[i - loaders.size()].size() ? 0 : times[i - loaders.size()][s]));
+            std::printf(i % loaders.size() == 0 ? " | %8.0f" : " %7.0f", median(added) * 1e9);
+        }
+        std::printf("\n");
     }
 }
 
@@ -196,7 +265,9 @@ int main(int argc, char **argv) {
     const char *linked = argc > 1 ? argv[1] : "checker";
     const int samples = argc > 2 ? std::max(3, std::atoi(argv[2])) : 301;
     std::vector<Case> loads, corrected, balls, roofs, every;
+    std::vector<Stages> by_stage;
     for (const auto &m : streams::nine_buildings()) {
+        by_stage.push_back(make_stages(m));
         loads.push_back(make_case(m, false));
         corrected.push_back(make_case(m, true));
     }
@@ -208,9 +279,10 @@ int main(int argc, char **argv) {
     for (const auto &c : every) must_agree(c);
 
     machine();
-    std::printf("all three agree on the %zu streams; medians of %d samples at most, whole calls, processor time\n", every.size(), samples);
-    table("loads", linked, loads, samples);
-    table("loads with 50 moves, 50 turns and 200 questions", linked, corrected, samples);
+    std::printf("all agree on the %zu streams; medians of %d samples at most, whole calls, processor time\n", every.size(), samples);
+    table("loads", linked, loads, samples, true);
+    table("loads with 50 moves, 50 turns and 200 questions", linked, corrected, samples, false);
+    stages(linked, by_stage, samples);
     growth("growth with polygons (balls of triangles)", linked, balls, samples);
     growth("growth with the corners of one roof (prisms)", linked, roofs, samples);
     stacks(linked, every);
