@@ -19,7 +19,6 @@ use Rattle.polygon.specs.Space.{Point}
 use Rattle.polygon.specs.Ring.{finding, findingNumber, part}
 use Rattle.shell.specs.declared.Shape.{Shape}
 use Rattle.shell.specs.declared.Shape.the-variants.{Whole}
-use Rattle.whole.specs.Stores.{zeroed}
 use Rattle.places.specs.Points.{point3, isFar, placed}
 use Rattle.places.specs.Chains.{Chained, linked, chained-none, chained-more}
 use Rattle.building.specs.declared.Scalars.{Scalars}
@@ -39,7 +38,7 @@ use Rattle.checker.specs.Service.{State, nothing, loading, holding, tabl
 use Rattle.checker.specs.Refusals.{isAccepted, refused-outcome}
 use Rattle.checker.specs.Fresh.{Passed, passed, accepted-outcome, known-ring}
 use Rattle.checker.specs.Handlers.{of-begin, of-broken}
-use Rattle.checker.specs.Holds.{loads, holds, stateOf, service, Valid, Did, does, withPoints, withRings}
+use Rattle.checker.specs.Holds.{loads, holds, stateOf, service, Valid, Did, does, unchained, withPoints, withRings}
 use Rattle.checker.specs.Rows.{Row, PointRow, PolygonRow, MoveRow, TurnRow, QuestionRow, tables, loads-is, service-loads, service-holds}
 
 -- ---- refused
@@ -47,7 +46,7 @@ use Rattle.checker.specs.Rows.{Row, PointRow, PolygonRow, MoveRow, TurnR
 module _ (a : Arrays) (d : Desk) (v : Valid a d) where
   -- the same is held, whatever the place of the next answer
   valid-at : (at : ℕ) → Valid a (record { mode = d .mode; held = d .held; at = at })
-  valid-at at = record { loaded = v .loaded; sizes = v .sizes; kept = v .kept; chained = v .chained }
+  valid-at at = record { loaded = v .loaded; sizes = v .sizes; kept = v .kept; chained = v .chained; fresh = v .fresh }
 
   pub did-digits : (r : Refusal) (n : ℕ) → n ≡ refusalNumber r → (room room′ : List ℕ) (at : ℕ) → Wrote (ended (plain n)) room (d .at) room′ at
       → Did (refused r (service a d)) room (d .at) a room′ (record { mode = d .mode; held = d .held; at = at })
@@ -101,6 +100,12 @@ not-held e = false≢true (ap holds e)
 not-loads : Holding ≡ Loading → ⊥
 not-loads e = false≢true (ap loads e)
 
+loading-not-nothing : Loading ≡ Nothing → ⊥
+loading-not-nothing e = true≢false (ap loads e)
+
+holding-not-nothing : Holding ≡ Nothing → ⊥
+holding-not-nothing e = true≢false (ap holds e)
+
 -- ---- begin
 
 module _ (a : Arrays) (d : Desk) (v : Valid a d) (tolerance : ℕ) where
@@ -108,11 +113,18 @@ module _ (a : Arrays) (d : Desk) (v : Valid a d) (tolerance : ℕ) where
   abbrev pub begunDesk : ℕ → Desk
   begunDesk at = record { mode = Loading; held = record { tolerance = tolerance; points = 0; polygons = 0; last = 0; edges = 0; fixed = Whole }; at = at }
 
-  pub did-begin : tolerance ≤ 1000 → (table : List ℕ) → table ≡ zeroed (a .table) 512 → (room room′ : List ℕ) (at : ℕ) → Wrote (ended (plain 0)) room (d .at) room′ at
+  -- the chains of no point
+  begun-chains : (m : Mode) → d .mode ≡ m → (table : List ℕ) → table ≡ unchained m (a .table) → Chained (a .points) table 0
+  unfolding unchained
+  begun-chains Nothing q table e = subst (λ (t : List ℕ). Chained (a .points) t 0) (sym e) (v .fresh q)
+  begun-chains Loading q table e = subst (λ (t : List ℕ). Chained (a .points) t 0) (sym e) (chained-none (a .points) (a .table) (v .sizes .table))
+  begun-chains Holding q table e = subst (λ (t : List ℕ). Chained (a .points) t 0) (sym e) (chained-none (a .points) (a .table) (v .sizes .table))
+
+  pub did-begin : tolerance ≤ 1000 → (table : List ℕ) → table ≡ unchained (d .mode) (a .table) → (room room′ : List ℕ) (at : ℕ) → Wrote (ended (plain 0)) room (d .at) room′ at
       → Did (does (service a d) (begin tolerance)) room (d .at) (withPoints (a .points) table a) room′ (begunDesk at)
   unfolding first given isAccepted takes answerTo service stateOf
   did-begin h table e room room′ at w =
-      let ch : Chained (a .points) table 0 = subst (λ (q : List ℕ). Chained (a .points) q 0) (sym e) (chained-none (a .points) (a .table) (v .sizes .table)) in
+      let ch : Chained (a .points) table 0 = begun-chains (d .mode) refl table e in
       did-accepted (service a d) (begin tolerance) Accepted room room′ (d .at) (withPoints (a .points) table a) (begunDesk at)
       (sym (of-begin (service a d) tolerance ∙ (rw (le-ltb 1000 tolerance h)))) refl
       (record {
@@ -120,6 +132,7 @@ module _ (a : Arrays) (d : Desk) (v : Valid a d) (tolerance : ℕ) where
         sizes = record { stamps = v .sizes .stamps; findings = v .sizes .findings; parts = v .sizes .parts; table = ch .size; turned = v .sizes .turned };
         kept = λ q. absurd (not-held q);
         chained = λ q. ch;
+        fresh = λ q. absurd (loading-not-nothing q);
       })
       (ap loading (tables-begun (a .points) (a .entries) (a .starts) tolerance 0 0 Whole))
       w
@@ -167,6 +180,7 @@ module _ (a : Arrays) (d : Desk) (v : Valid a d) (x y z : ℤ) (r : Refusal) (ro
         sizes = record { stamps = v .sizes .stamps; findings = v .sizes .findings; parts = v .sizes .parts; table = ch .size; turned = v .sizes .turned };
         kept = λ q. absurd (not-held q);
         chained = λ q. ch;
+        fresh = λ q. absurd (loading-not-nothing q);
       })
       (ap (λ (q : List ℤ). loading (heldTables q (a .entries) (a .starts) (pointDesk at .held))) e
       ∙ ap loading (tables-point (v .loaded) (point3 x y z) few (d .held .last) (d .held .edges) Whole)
@@ -219,6 +233,7 @@ module _ (a : Arrays) (d : Desk) (v : Valid a d) (ring : List ℕ) (r : Refusal)
         sizes = record { stamps = v .sizes .stamps; findings = v .sizes .findings; parts = v .sizes .parts; table = v .sizes .table; turned = v .sizes .turned };
         kept = λ q. absurd (not-held q);
         chained = λ q. v .chained (loads-is (d .mode) polygon-loads);
+        fresh = λ q. absurd (loading-not-nothing q);
       })
       ((λ i. loading (heldTables (a .points) (e i) (f i) (polygonDesk at .held)))
       ∙ ap loading (tables-polygon (v .loaded) ring (space-for few space short) (d .held .last) (d .held .edges) Whole)
@@ -247,7 +262,7 @@ module _ (a : Arrays) (d : Desk) (f : Frame) (r : Refusal) (row : r ≡ refusal 
   did-report b e n a′ s h room room′ at w =
       let same : heldTables (a′ .points) (a′ .entries) (a′ .starts) s ≡ b .tables = ap (λ (q : Building). q .tables) (h .is) in
       did-accepted (service a d) f r room room′ (d .at) a′ (record { mode = Holding; held = s; at = at }) row t
-      (record { loaded = h .held .loaded; sizes = held-sizes a′ s (h .held); kept = λ _. h .held .kept; chained = λ q. absurd (not-loads q) })
+      (record { loaded = h .held .loaded; sizes = held-sizes a′ s (h .held); kept = λ _. h .held .kept; chained = λ q. absurd (not-loads q); fresh = λ q. absurd (holding-not-nothing q) })
       (ap holding (h .is) ∙ sym e)
       (subst (λ (l : List ℕ). Wrote (ended l) room (d .at) room′ at) (ap reportOf same ∙ sym n ∙ ap (answerTo f) (sym e)) w)
 

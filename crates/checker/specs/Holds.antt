@@ -9,6 +9,7 @@ use lib.IntN.{ℤ, pos}
 use Rattle.frame.specs.Meaning.{Listed}
 use Rattle.frame.specs.Lines.{lines, ended}
 use Rattle.frame.specs.Frame.{Frame, numbers}
+use Rattle.whole.specs.Stores.{zeroed}
 use Rattle.places.specs.Chains.{Chained}
 use Rattle.building.specs.declared.Scalars.{Scalars}
 use Rattle.building.specs.Tables.{Tables, Building}
@@ -42,12 +43,13 @@ unfoldable pub service : Arrays → Desk → State
 service a d = stateOf (d .mode) (heldTables (a .points) (a .entries) (a .starts) (d .held)) (heldBuilding a (d .held))
 
 -- what always holds of them; findings, parts and edges are kept while a building is held, and while a load runs the edges' room holds the
--- points by their places
+-- points by their places, of which there are none before the first load
 pub record Valid (a : Arrays) (d : Desk) : Type 0 where
   pub loaded : Loaded (a .points) (a .entries) (a .starts) (d .held)
   pub sizes : Sizes a
   pub kept : d .mode ≡ Holding → Kept (a .points) (a .entries) (a .starts) (a .findings) (a .parts) (a .table) (a .turned) (d .held)
   pub chained : d .mode ≡ Loading → Chained (a .points) (a .table) (d .held .points)
+  pub fresh : d .mode ≡ Nothing → Chained (a .points) (a .table) 0
 
 -- what comes back after an outcome, answered at a place of the room
 pub record Did (o : Outcome) (room : List ℕ) (at : ℕ) (a : Arrays) (room′ : List ℕ) (d : Desk) : Type 0 where
@@ -59,6 +61,12 @@ pub record Did (o : Outcome) (room : List ℕ) (at : ℕ) (a : Arrays) (room′ 
 -- what a frame does to a state
 abbrev pub does : State → Frame → Outcome
 does st f = outcome (refusal st f) st f
+
+-- the table with no chains: one that has never been used has none
+unfoldable pub unchained : Mode → List ℕ → List ℕ
+unchained Nothing table = table
+unchained Loading table = zeroed table 512
+unchained Holding table = zeroed table 512
 
 -- the arrays with other points and another table, with other entries and starts
 abbrev pub withPoints : List ℤ → List ℕ → Arrays → Arrays

@@ -15,13 +15,14 @@ use Rattle.whole.specs.Stores.{sets-append}
 use Rattle.frame.specs.Frame.{Frame, decode, numbers, polygon}
 use Rattle.whole.specs.Search.{drop-next, drop-end}
 use Rattle.polygon.specs.Held.{Coords}
+use Rattle.places.specs.Chains.{chained-fresh}
 use Rattle.shell.specs.declared.Shape.the-variants.{Whole}
 use Rattle.building.specs.Holds.{Arrays, Sizes}
 use Rattle.building.specs.Load.{loaded-begun}
 use Rattle.checker.specs.declared.Desk.{Desk}
 use Rattle.checker.specs.declared.Mode.the-variants.{Nothing, Loading, Holding}
 use Rattle.checker.specs.Service.{State, nothing, Outcome, step}
-use Rattle.checker.specs.Stream.{run, answers, served, Answers}
+use Rattle.checker.specs.Stream.{run, answers, served, Answers, stream-computes}
 use Rattle.checker.specs.Stream as Stream
 use Rattle.checker.specs.Short.{step-short, answers-short}
 use Rattle.checker.specs.Room.{long-stream, many-lines, narrow-room, answered-stream}
@@ -103,13 +104,14 @@ running-end stream room₀ room a d from r h =
 
 -- ---- the arrays as they are made
 
-pub valid-idle : (a : Arrays) → Coords (a .points) → length (a .entries) ≡ 1024 → length (a .starts) ≡ 257 → getD (a .starts) 0 0 ≡ 0 → Sizes a → Valid a idleDesk
-valid-idle a c e s z k =
+pub valid-idle : (a : Arrays) → Coords (a .points) → length (a .entries) ≡ 1024 → length (a .starts) ≡ 257 → getD (a .starts) 0 0 ≡ 0 → Sizes a → ((b : ℕ) → getD (a .table) b 0 ≡ 0) → Valid a idleDesk
+valid-idle a c e s z k f =
     record {
       loaded = loaded-begun (a .points) (a .entries) (a .starts) 0 0 0 Whole c e s z (omega arith);
       sizes = k;
       kept = λ q. absurd (nothing-held q);
       chained = λ q. absurd (nothing-loads q);
+      fresh = λ q. chained-fresh (a .points) (a .table) (k .table) f;
     }
   where
     nothing-held : Nothing ≡ Holding → ⊥
@@ -145,6 +147,17 @@ module _ (stream room : List ℕ) where
               let z : 0 + length l ≡ length l = omega arith in
               sets-eq l m 0 (omega arith) ∙ ap (λ (k : ℕ). l ++ drop k m) z
 
+no-bytes : (s : List ℕ) → length s ≡ 0 → s ≡ []
+no-bytes [] h = refl
+no-bytes (b ∷ s) h = absurd (omega arith)
+
+-- "An empty stream has no lines and returns 0."
+pub entry-empty : (stream room : List ℕ) → length stream ≡ 0 → Answers stream room (pos 0) room
+unfolding stream-computes lines
+entry-empty stream room h =
+    subst (λ (s : List ℕ). Answers s room (pos 0) room) (sym (no-bytes stream h))
+    (entry-answered [] room (omega arith) (omega arith) (omega arith) room 0 (pos 0) (record { bytes = refl; count = refl }) refl)
+
 -- ---- the loop that copies a ring into the entries: what is copied, with what is still to copy, gives the whole
 
 pub record Copied (ring entries₀ : List ℕ) (from i : ℕ) (entries : List ℕ) : Type 0 where
@@ -169,12 +182,12 @@ copied-more {ring} {entries₀} {entries} {from} {i} c h x e =
 pub copied-all : {ring entries₀ entries : List ℕ} {from i : ℕ} → Copied ring entries₀ from i entries → i ≡ length ring → entries ≡ sets entries₀ from ring
 copied-all {ring} {entries₀} {entries} {from} {i} c e = sym (ap (sets entries (from + i)) (drop-end ring i e)) ∙ c .rest
 
--- ---- points of nothing but zeros
+-- ---- arrays of nothing but zeros
 
-zeros : (n i : ℕ) → getD (replicate n (pos 0)) i (pos 0) ≡ pos 0
-zeros zero i = refl
-zeros (suc n) zero = refl
-zeros (suc n) (suc i) = zeros n i
+pub all-alike : {A : Type 0} (x : A) (n i : ℕ) → getD (replicate n x) i x ≡ x
+all-alike x zero i = refl
+all-alike x (suc n) zero = refl
+all-alike x (suc n) (suc i) = all-alike x n i
 
 pub fresh-coords : (n : ℕ) → n ≡ 1536 → Coords (replicate n (pos 0))
-fresh-coords n e = record { room = length-replicate {A = ℤ} n (pos 0) ∙ e; small = λ i. subst (λ (z : ℤ). Small 100000 z) (sym (zeros n i)) small-zero }
+fresh-coords n e = record { room = length-replicate {A = ℤ} n (pos 0) ∙ e; small = λ i. subst (λ (z : ℤ). Small 100000 z) (sym (all-alike (pos 0) n i)) small-zero }

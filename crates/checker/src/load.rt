@@ -15,7 +15,19 @@ ghost use Rattle.frame.specs.Frame as F;
 ghost use Rattle.frame.specs.Frame.{numbers};
 ghost use Rattle.shell.specs.Held.{Starts};
 ghost use Rattle.building.specs.Holds.{Arrays, arrays};
-ghost use Rattle.checker.specs.Holds.{service, Valid, Did, does, withPoints, withRings, Placing, PolygonLine};
+ghost use Rattle.checker.specs.Holds.{service, Valid, Did, does, unchained, withPoints, withRings, Placing, PolygonLine};
+
+// No point is linked. Before the first load of a call none has been, so that there is nothing to clear.
+fn clear_chains(table: &mut [u64; 1024], mode: Mode)
+    requires { ⌜ length (now table) ≡ 1024 ⌝ }
+    ensures { λ _. ⌜ now (table .exit) ≡ unchained mode (now (table .entry)) ⌝ }
+{
+    match mode {
+        Mode::Nothing => {}
+        Mode::Loading => places::clear(table),
+        Mode::Holding => places::clear(table),
+    }
+}
 
 // Accepted begin drops all that was held and starts a load.
 pub fn begin(table: &mut [u64; 1024], room: &mut [u8], d: Desk, tolerance: u16) -> Desk
@@ -25,7 +37,8 @@ pub fn begin(table: &mut [u64; 1024], room: &mut [u8], d: Desk, tolerance: u16) 
     if 1000 < tolerance {
         return answer::refuse(room, d, Refusal::Beyond);
     }
-    places::clear(table);
+    let mode = d.mode;
+    clear_chains(table, mode);
     let from = d.at;
     let at = frame::put_plain(room, from, 0);
     let held = Scalars {

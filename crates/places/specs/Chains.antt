@@ -89,6 +89,11 @@ chained-none points table h =
       links = λ i l. absurd (omega arith);
     }
 
+-- and so are those of a table that has never been used
+pub chained-fresh : (points : List ℤ) (table : List ℕ) → length table ≡ 1024 → ((b : ℕ) → getD table b 0 ≡ 0) → Chained points table 0
+unfolding lastBelow
+chained-fresh points table h z = record { size = h; heads = λ b l. z b; links = λ i l. absurd (omega arith) }
+
 -- ---- one point more
 module _ (points : List ℤ) (table : List ℕ) (n : ℕ) (p : Point) (room : length points ≡ 1536) (few : n < 512) (c : Chained points table n) where
   abbrev new-points : List ℤ

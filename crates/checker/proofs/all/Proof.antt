@@ -50,7 +50,7 @@ idle-requires c κs = search needs
 loop-holds : tie.Need-loop-holds Inv-loop μ-loop
 loop-holds c =
     running-idle (c .before .before .before .before .before .before .before .before .before .before .before .args .stream .now) (c .before .before .before .before .before .before .before .before .before .before .before .args .room .now) _ (c .idle .result) (c .idle .ensures) (valid-idle _ (c .before .before .before .before .before .before .before .before .fresh-points .ensures) (c .before .before .before .before .before .before .before .fresh-entries .ensures) (c .before .before .before .before .before .before .fresh-starts .ensures .0) (c .before .before .before .before .before .before .fresh-starts .ensures .1)
-    (record { stamps = c .before .before .before .before .before .fresh-stamps .ensures; findings = c .before .before .before .before .fresh-bytes .ensures; parts = c .before .before .before .fresh-parts .ensures; table = c .before .before .fresh-table .ensures; turned = c .before .fresh-bytes2 .ensures })) (c .before .before .before .before .before .before .before .before .before .before .before .pre .1)
+    (record { stamps = c .before .before .before .before .before .fresh-stamps .ensures; findings = c .before .before .before .before .fresh-bytes .ensures; parts = c .before .before .before .fresh-parts .ensures; table = c .before .before .fresh-table .ensures .0; turned = c .before .fresh-bytes2 .ensures }) (c .before .before .fresh-table .ensures .1)) (c .before .before .before .before .before .before .before .before .before .before .before .pre .1)
 
 line-end-requires : tie.Need-line-end-requires Inv-loop μ-loop
 line-end-requires c κs = search needs

@@ -1,10 +1,7 @@
 -- `checker::load::begin` meets its contract.
 use mathlib.Core.Path.{refl, sym, ap, _∙_}
-use mathlib.Core.List.{List}
-use Prim.Native.Nat.{ℕ}
-use Rattle.whole.specs.Stores.{zeroed}
 use Rattle.frame.specs.Frame.{begin}
-use Rattle.checker.specs.Holds.{service, does}
+use Rattle.checker.specs.Holds.{service, does, unchained}
 use Rattle.checker.specs.Dids.{did-points, did-begin, did-begin-beyond}
 use borrow.Author.Needs.{needs}
 use Rattle.checker.proofs.load.begin.Statement.{statement}
@@ -23,8 +20,8 @@ returns c =
     did-points (does (service a (g .d)) (begin (g .tolerance))) (g .room .now) (g .d .at) a _ _ (a .points) (g .table .now) refl e
     (did-begin-beyond a (g .d) v (g .tolerance) (c .before .before .before .before .if1 .taken) (g .room .now) _ _ (c .before .before .refuse .ensures a v))
 
-clear-requires : tie.Need-clear-requires
-clear-requires c κs = search needs
+clear-chains-requires : tie.Need-clear-chains-requires
+clear-chains-requires c κs = search needs
 
 put-plain-requires : tie.Need-put-plain-requires
 put-plain-requires c κs = search needs
@@ -36,7 +33,7 @@ returns-2 : tie.Need-returns-2
 returns-2 c =
     λ a e v.
     let g = c .before .before .before .before .before .before .before .before .args in
-    did-begin a (g .d) v (g .tolerance) (c .before .before .before .before .before .before .if1 .left) _ (c .before .before .before .before .clear .ensures ∙ ap (λ (q : List ℕ). zeroed q 512) (sym e)) (g .room .now) _ _ (c .before .before .put-plain .ensures)
+    did-begin a (g .d) v (g .tolerance) (c .before .before .before .before .before .before .if1 .left) _ (c .before .before .before .before .clear-chains .ensures ∙ ap (unchained (g .d .mode)) (sym e)) (g .room .now) _ _ (c .before .before .put-plain .ensures)
 
 pub begin-spec : {M : Type 1} → statement M
 begin-spec =
@@ -45,7 +42,7 @@ begin-spec =
     refuse-requires
     same-length
     returns
-    clear-requires
+    clear-chains-requires
     put-plain-requires
     same-length-2
     returns-2)
