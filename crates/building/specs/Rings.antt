@@ -27,6 +27,26 @@ pub record Ring (entries starts : List ℕ) (p : ℕ) : Type 0 where
   pub inside : getD starts (p + 1) 0 ≤ 1024
   pub known : Known (ringAt entries starts p)
 
+-- the rings from p up to q lie in the table
+pub record Span (entries starts : List ℕ) (p q : ℕ) : Type 0 where
+  pub entries-size : length entries ≡ 1024
+  pub starts-size : length starts ≡ 257
+  pub first : p ≤ 256
+  pub last : q ≤ 256
+  pub forward : getD starts p 0 ≤ getD starts q 0
+  pub inside : getD starts q 0 ≤ 1024
+
+pub ring-span : {entries starts : List ℕ} {p : ℕ} → Ring entries starts p → Span entries starts p (p + 1)
+ring-span r =
+    record {
+      entries-size = r .entries-size;
+      starts-size = r .starts-size;
+      first = omega (arith, r .few);
+      last = omega (arith, r .few);
+      forward = r .forward;
+      inside = r .inside;
+    }
+
 pub ring-length : (entries starts : List ℕ) (p : ℕ) → length entries ≡ 1024 → getD starts (p + 1) 0 ≤ 1024 → length (ringAt entries starts p) ≡ getD starts (p + 1) 0 - getD starts p 0
 ring-length entries starts p s w = length-cut (getD starts p 0) (getD starts (p + 1) 0) entries (omega arith)
 
@@ -86,6 +106,20 @@ module _ {points : List ℤ} {entries starts : List ℕ} {s : Scalars} (ld : Loa
         forward = st .ordered p (p + 1) (omega arith) (omega arith);
         inside = omega arith;
         known = record { few = ld .short p h; each = λ i q. omega (arith, ring-below p h i q) };
+      }
+
+  pub span-of : (p q : ℕ) → p ≤ q → q ≤ s .polygons → Span entries starts p q
+  span-of p q h g =
+      let st = ld .begins in
+      let e : getD starts q 0 ≤ getD starts (s .polygons) 0 = st .ordered q (s .polygons) g (omega arith) in
+      let w : getD starts (s .polygons) 0 ≤ 1024 = st .inside in
+      record {
+        entries-size = ld .entered .size;
+        starts-size = st .size;
+        first = omega (arith, st .few);
+        last = omega (arith, st .few);
+        forward = st .ordered p q h g;
+        inside = omega arith;
       }
 
 -- the entries with ring p turned in its place

@@ -77,14 +77,6 @@ module _ (tolerance : ℕ) (points : List ℤ) (entries starts : List ℕ) (numb
       pub looked-parts : length parts' ≡ length parts
       looked-parts = ap length (lo .summed) ∙ length-upto (repart points entries starts n) (pos 0) parts m
 
-      pub looked-more : {stamps'' findings'' : List ℕ} {parts'' : List ℤ} → Touched m stamps' findings' parts' stamps'' findings'' parts'' → Looked (m + 1) stamps findings parts stamps'' findings'' parts''
-      looked-more t =
-          record {
-            stamped = t .stamped ∙ ap (λ (l : List ℕ). set l m (restamp entries starts number n m (getD l m 0))) (lo .stamped) ∙ upto-more (restamp entries starts number n) 0 stamps m;
-            found = t .found ∙ ap (λ (l : List ℕ). set l m (refind tolerance points entries starts n m (getD l m 0))) (lo .found) ∙ upto-more (refind tolerance points entries starts n) 0 findings m;
-            summed = t .summed ∙ ap (λ (l : List ℤ). set l m (repart points entries starts n m (getD l m (pos 0)))) (lo .summed) ∙ upto-more (repart points entries starts n) (pos 0) parts m;
-          }
-
 -- ---- all 256 are 0
 module _ (l : List ℕ) where
   pub zeroed-all : length l ≡ 256 → (p : ℕ) → getD (zeroed l 256) p 0 ≡ 0

@@ -3,24 +3,25 @@ use super::Scalars;
 ghost use mathlib.Core.Path.{_≡_};
 ghost use mathlib.Core.Bool.{false};
 ghost use Prim.Native.Nat.{_<_, _≤_};
-ghost use lib.ListN.{length};
+ghost use lib.ListN.{length, getD};
 ghost use Rattle.whole.specs.Lists.{lists};
 ghost use Rattle.polygon.specs.Held.{Coords};
 ghost use Rattle.places.specs.Points.{point3, isFar};
-ghost use Rattle.shell.specs.Held.{ringAt};
 ghost use Rattle.building.specs.Tables.{moved};
 ghost use Rattle.building.specs.Holds.{arrays, heldBuilding, Loaded, Held, Did};
-ghost use Rattle.building.specs.Rings.{Ring};
+ghost use Rattle.building.specs.Lists.{cut};
+ghost use Rattle.building.specs.Rings.{Ring, Span};
 ghost use Rattle.building.specs.Steps.{Touched, Looked};
+ghost use Rattle.building.specs.Spans.{LookedFrom};
 ghost use Rattle.building.specs.Writes.{MoveWrites};
 
-// Whether ring p lists point n.
-fn uses(entries: &[u16; 1024], starts: &[u16; 257], p: usize, n: u16) -> bool
-    requires { ⌜ Ring (now entries) (now starts) p ⌝ }
-    ensures { λ r. ⌜ r ≡ lists n (ringAt (now (entries .entry)) (now (starts .entry)) p) ⌝ }
+// Whether one of the rings from p up to q lists point n: they stand one after another, so that all are asked at once.
+fn uses(entries: &[u16; 1024], starts: &[u16; 257], p: usize, q: usize, n: u16) -> bool
+    requires { ⌜ Span (now entries) (now starts) p q ⌝ }
+    ensures { λ r. ⌜ r ≡ lists n (cut (getD (now (starts .entry)) p 0) (getD (now (starts .entry)) q 0) (now (entries .entry))) ⌝ }
 {
     let from = starts[p] as usize;
-    let to = starts[p + 1] as usize;
+    let to = starts[q] as usize;
     let all = &entries[..];
     polygon::lists(&all[from..to], n)
 }
@@ -43,10 +44,90 @@ fn touch(
     requires { ⌜ (tolerance ≤ 1000) × ((length (now stamps) ≡ 256) × ((length (now findings) ≡ 256) × (length (now parts) ≡ 256))) ⌝ }
     ensures { λ _. ⌜ Touched tolerance (now (points .entry)) (now (entries .entry)) (now (starts .entry)) number n p (now (stamps .entry)) (now (findings .entry)) (now (parts .entry)) (now (stamps .exit)) (now (findings .exit)) (now (parts .exit)) ⌝ }
 {
-    if uses(entries, starts, p, n) {
+    if uses(entries, starts, p, p + 1, n) {
         super::refresh(points, entries, starts, findings, parts, tolerance, p);
         stamps[p] = number;
     }
+}
+
+// The polygons from one up to another looked at again whose rings list point n.
+fn look_at_each(
+    points: &[i64; 1536],
+    entries: &[u16; 1024],
+    starts: &[u16; 257],
+    stamps: &mut [u32; 256],
+    findings: &mut [u8; 256],
+    parts: &mut [i64; 256],
+    s: Scalars,
+    from: usize,
+    to: usize,
+    n: u16,
+    number: u32,
+)
+    requires { ⌜ Loaded (now points) (now entries) (now starts) s ⌝ }
+    requires { ⌜ (from ≤ to) × ((to ≤ s .polygons) × ((length (now stamps) ≡ 256) × ((length (now findings) ≡ 256) × (length (now parts) ≡ 256)))) ⌝ }
+    ensures { λ _. ⌜ LookedFrom (s .tolerance) (now (points .entry)) (now (entries .entry)) (now (starts .entry)) number n from to (now (stamps .entry)) (now (findings .entry)) (now (parts .entry)) (now (stamps .exit)) (now (findings .exit)) (now (parts .exit)) ⌝ }
+{
+    let tolerance = s.tolerance;
+    let mut p = from;
+    while p < to {
+        touch(
+            points,
+            entries,
+            starts,
+            stamps,
+            findings,
+            parts,
+            tolerance,
+            p,
+            n,
+            number,
+        );
+        p += 1;
+    }
+}
+
+// The same, where no polygon need be touched if none of them lists the point.
+fn look_through(
+    points: &[i64; 1536],
+    entries: &[u16; 1024],
+    starts: &[u16; 257],
+    stamps: &mut [u32; 256],
+    findings: &mut [u8; 256],
+    parts: &mut [i64; 256],
+    s: Scalars,
+    from: usize,
+    to: usize,
+    n: u16,
+    number: u32,
+)
+    requires { ⌜ Loaded (now points) (now entries) (now starts) s ⌝ }
+    requires { ⌜ (from ≤ to) × ((to ≤ s .polygons) × ((length (now stamps) ≡ 256) × ((length (now findings) ≡ 256) × (length (now parts) ≡ 256)))) ⌝ }
+    ensures { λ _. ⌜ LookedFrom (s .tolerance) (now (points .entry)) (now (entries .entry)) (now (starts .entry)) number n from to (now (stamps .entry)) (now (findings .entry)) (now (parts .entry)) (now (stamps .exit)) (now (findings .exit)) (now (parts .exit)) ⌝ }
+{
+    if uses(entries, starts, from, to, n) {
+        look_at_each(
+            points,
+            entries,
+            starts,
+            stamps,
+            findings,
+            parts,
+            s,
+            from,
+            to,
+            n,
+            number,
+        );
+    }
+}
+
+// Where the next group of polygons ends: eight are asked at once whether one lists the point.
+fn group_end(p: usize, polygons: usize) -> usize
+    requires { ⌜ p < polygons ⌝ }
+    ensures { λ r. ⌜ (p < r) × (r ≤ polygons) ⌝ }
+{
+    if polygons - p < 8 { polygons } else { p + 8 }
 }
 
 // All polygons looked at again whose rings list point n.
@@ -66,22 +147,23 @@ fn look_again(
     ensures { λ _. ⌜ Looked (s .tolerance) (now (points .entry)) (now (entries .entry)) (now (starts .entry)) number n (s .polygons) (now (stamps .entry)) (now (findings .entry)) (now (parts .entry)) (now (stamps .exit)) (now (findings .exit)) (now (parts .exit)) ⌝ }
 {
     let polygons = s.polygons;
-    let tolerance = s.tolerance;
     let mut p = 0;
     while p < polygons {
-        touch(
+        let q = group_end(p, polygons);
+        look_through(
             points,
             entries,
             starts,
             stamps,
             findings,
             parts,
-            tolerance,
+            s,
             p,
+            q,
             n,
             number,
         );
-        p += 1;
+        p = q;
     }
 }
 

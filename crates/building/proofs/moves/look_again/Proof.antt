@@ -3,17 +3,17 @@ use Prim.Native.Nat.{ℕ, _-_, _≤_}
 use mathlib.Core.Path.{_≡_, _∙_, subst}
 use native.Mathlib.Omega.{arith}
 use borrow.Author.Needs.{needs}
-use Rattle.building.specs.Rings.{ring-of}
-use Rattle.building.specs.Steps.{Looked, looked-none, looked-stamps, looked-findings, looked-parts, looked-more}
+use Rattle.building.specs.Steps.{Looked, looked-none, looked-stamps, looked-findings, looked-parts}
+use Rattle.building.specs.Spans.{looked-joined}
 use Rattle.building.proofs.moves.look_again.Statement.{statement}
 use Rattle.building.proofs.moves.look_again.Tie as tie
 
 abbrev Inv-loop : tie.InvT-loop
-Inv-loop points entries starts stamps₀ findings₀ parts₀ n number polygons tolerance p₀ stamps findings parts p =
-    (p ≤ polygons) × Looked tolerance points entries starts number n p stamps₀ findings₀ parts₀ stamps findings parts
+Inv-loop points entries starts stamps₀ findings₀ parts₀ s n number polygons p₀ stamps findings parts p =
+    (p ≤ polygons) × Looked (s .tolerance) points entries starts number n p stamps₀ findings₀ parts₀ stamps findings parts
 
 abbrev μ-loop : tie.MeasureT-loop
-μ-loop points entries starts stamps₀ findings₀ parts₀ n number polygons tolerance p₀ stamps findings parts p =
+μ-loop points entries starts stamps₀ findings₀ parts₀ s n number polygons p₀ stamps findings parts p =
     polygons - p
 
 loop-holds : tie.Need-loop-holds Inv-loop μ-loop
@@ -21,18 +21,20 @@ loop-holds c =
     let a = c .args in
     (search needs, looked-none (a .s .tolerance) (a .points .now) (a .entries .now) (a .starts .now) (a .number) (a .n))
 
-touch-requires : tie.Need-touch-requires Inv-loop μ-loop
-touch-requires c κs =
-    let s = c .before .before .before .before .before in
+group-end-requires : tie.Need-group-end-requires Inv-loop μ-loop
+group-end-requires c κs = search needs
+
+look-through-requires : tie.Need-look-through-requires Inv-loop μ-loop
+look-through-requires c κs =
+    let s = c .before .before .before .before .before .before in
     let a = s .args in
-    let lp = c .before .before .before .before .loop in
-    let i = lp .inv .1 in
-    let ld = s .pre .0 in (
-      ld .coords,
+    let i = c .before .before .before .before .before .loop .inv .1 in
+    let e = c .before .before .before .group-end .ensures in (
+      s .pre .0,
       (
-        ring-of ld (lp .p) (c .before .before .before .loop-test .taken),
+        omega (arith, e .0),
         (
-          ld .tolerant,
+          e .1,
           (
             looked-stamps (a .s .tolerance) (a .points .now) (a .entries .now) (a .starts .now) (a .number) (a .n) i ∙ s .pre .1 .0,
             (
@@ -44,17 +46,15 @@ touch-requires c κs =
       ),
     )
 
-add-p : tie.Need-add-p Inv-loop μ-loop
-add-p c = search needs
-
 loop-less : tie.Need-loop-less Inv-loop μ-loop
 loop-less c = search needs
 
 loop-again : tie.Need-loop-again Inv-loop μ-loop
 loop-again c =
-    let a = c .before .before .before .before .before .before .args in
-    let lp = c .before .before .before .before .before .loop in
-    (search needs, looked-more (a .s .tolerance) (a .points .now) (a .entries .now) (a .starts .now) (a .number) (a .n) (lp .inv .1) (c .touch .ensures))
+    let a = c .before .before .before .before .before .before .before .args in
+    let lp = c .before .before .before .before .before .before .loop in
+    let e = c .before .before .before .before .group-end .ensures in
+    (e .1, looked-joined (a .s .tolerance) (a .points .now) (a .entries .now) (a .starts .now) (a .number) (a .n) (lp .p) (c .look-through .ensures) (omega (arith, e .0)) (lp .inv .1))
 
 returns : tie.Need-returns Inv-loop μ-loop
 returns c =
@@ -66,4 +66,12 @@ returns c =
 pub look-again-spec : {M : Type 1} → statement M
 look-again-spec =
     tie.close
-    (tie.spec Inv-loop μ-loop loop-holds touch-requires add-p loop-less loop-again returns)
+    (tie.spec
+    Inv-loop
+    μ-loop
+    loop-holds
+    group-end-requires
+    look-through-requires
+    loop-less
+    loop-again
+    returns)

@@ -1,12 +1,16 @@
 -- `building::moves::touch` meets its contract, by whether the ring lists the point.
 use mathlib.Core.Path.{sym, _∙_}
+use Rattle.building.specs.Rings.{ring-span}
 use Rattle.building.specs.Steps.{touched-yes, touched-no}
 use borrow.Author.Needs.{needs}
 use Rattle.building.proofs.moves.touch.Statement.{statement}
 use Rattle.building.proofs.moves.touch.Tie as tie
 
+add-uses : tie.Need-add-uses
+add-uses c = search needs
+
 uses-requires : tie.Need-uses-requires
-uses-requires c κs = search needs
+uses-requires c κs = ring-span (c .pre .1 .0)
 
 refresh-requires : tie.Need-refresh-requires
 refresh-requires c κs = search needs
@@ -31,4 +35,4 @@ returns-2 c =
 pub touch-spec : {M : Type 1} → statement M
 touch-spec =
     tie.close
-    (tie.spec uses-requires refresh-requires mul-stamps element-write-stamps returns returns-2)
+    (tie.spec add-uses uses-requires refresh-requires mul-stamps element-write-stamps returns returns-2)
