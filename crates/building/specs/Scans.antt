@@ -1,5 +1,5 @@
 -- The report's loops over the first n findings and parts.
-use Prim.Native.Nat.{ℕ, zero, suc, _+_, _*_, _≤_, _<_}
+use Prim.Native.Nat.{ℕ, zero, suc, _+_, _*_, _-_, _≤_, _<_}
 use native.Mathlib.Omega.{arith}
 use native.Mathlib.Numerals.{add-one}
 use native.Mathlib.Nat.{zero-add}
@@ -9,13 +9,15 @@ use mathlib.Core.List.{List, [], _∷_, _++_}
 use borrow.Author.Tests.{lt-ltb, le-ltb}
 use lib.Dec.{ltb}
 use lib.ListN.{length, getD, take, drop}
-use lib.Seq.{drop-cons, drop-length, getD-take, length-take-le, take-suc}
+use lib.Seq.{drop-cons, drop-length, getD-take, length-take-le, take-suc, take-add}
 use lib.IntN.{ℤ, pos, _+ℤ_, +ℤ-idl, +ℤ-idr, +ℤ-assoc}
 use mir.Syntax.{w64}
 use mir.Val.{SFits, ofZ, toZ}
 use mir.Facts.{toZ-ofZ}
 use Rattle.whole.specs.Size.{Small, small-fits}
 use Rattle.whole.specs.Lists.{tally, sumOf}
+use Rattle.whole.specs.Search.{drop-next, drop-end}
+use Rattle.shell.specs.Tallies.{tally-append}
 
 -- the place of the first number that is not 0; the length if there is none
 unfoldable pub lowest : List ℕ → ℕ
@@ -26,10 +28,10 @@ pub record Searched (l : List ℕ) (n i : ℕ) : Type 0 where
   pub passed : i ≤ n
   pub is : i + lowest (drop i (take n l)) ≡ lowest (take n l)
 
-pub record Counted (l : List ℕ) (n i count : ℕ) : Type 0 where
-  pub passed : i ≤ n
+pub record Counted (l : List ℕ) (i count : ℕ) : Type 0 where
+  pub passed : i ≤ length l
   pub few : count ≤ i
-  pub is : count + tally (ltb 0) (drop i (take n l)) ≡ tally (ltb 0) (take n l)
+  pub is : count + tally (ltb 0) (drop i l) ≡ tally (ltb 0) l
 
 pub above : (x : ℕ) → (x ≡ 0 → ⊥) → ltb 0 x ≡ true
 above x e = lt-ltb 0 x (pos-of x e)
@@ -51,9 +53,6 @@ module _ (l : List ℕ) (n : ℕ) (w : n ≤ length l) where
   pub searched-none : Searched l n 0
   searched-none = record { passed = omega arith; is = zero-add (lowest (take n l)) }
 
-  pub counted-none : Counted l n 0 0
-  counted-none = record { passed = omega arith; few = omega arith; is = zero-add (tally (ltb 0) (take n l)) }
-
   module _ (i : ℕ) (h : i < n) where
     pub searched-more : Searched l n i → getD l i 0 ≡ 0 → Searched l n (i + 1)
     unfolding lowest
@@ -67,32 +66,61 @@ module _ (l : List ℕ) (n : ℕ) (w : n ≤ length l) where
         let f : lowest (drop i (take n l)) ≡ 0 = ap lowest (front i h) ∙ ap (λ (b : Bool). elim b [ true ↦ 0 | false ↦ suc (lowest (drop (suc i) (take n l))) ]) (above (getD l i 0) e) in
         omega (arith, s .is)
 
-    pub counted-skip : (count : ℕ) → Counted l n i count → getD l i 0 ≡ 0 → Counted l n (i + 1) count
-    unfolding tally
-    counted-skip count s e =
-        let f : tally (ltb 0) (drop i (take n l)) ≡ tally (ltb 0) (drop (i + 1) (take n l)) = rw (add-one, front i h, e) in
-        record { passed = omega arith; few = omega (arith, s .few); is = omega (arith, s .is) }
-
-    pub counted-more : (count : ℕ) → Counted l n i count → (getD l i 0 ≡ 0 → ⊥) → Counted l n (i + 1) (count + 1)
-    unfolding tally
-    counted-more count s e =
-        let f : tally (ltb 0) (drop i (take n l)) ≡ suc (tally (ltb 0) (drop (i + 1) (take n l))) =
-        ap (tally (ltb 0)) (front i h)
-        ∙ ap (λ (b : Bool). elim b [ true ↦ suc (tally (ltb 0) (drop (suc i) (take n l))) | false ↦ tally (ltb 0) (drop (suc i) (take n l)) ]) (above (getD l i 0) e)
-        ∙ ap (λ (k : ℕ). suc (tally (ltb 0) (drop k (take n l)))) (sym (add-one i)) in
-        record { passed = omega arith; few = omega (arith, s .few); is = omega (arith, s .is) }
-
   pub searched-done : (i : ℕ) → Searched l n i → n ≤ i → i ≡ lowest (take n l)
   unfolding lowest
   searched-done i s h =
       let f : lowest (drop i (take n l)) ≡ 0 = ap lowest (none-left i (s .passed) h) in
       omega (arith, s .is)
 
-  pub counted-done : (i count : ℕ) → Counted l n i count → n ≤ i → count ≡ tally (ltb 0) (take n l)
+-- ---- the loop that counts a part
+module _ (l : List ℕ) where
+  pub counted-none : Counted l 0 0
+  counted-none = record { passed = omega arith; few = omega arith; is = zero-add (tally (ltb 0) l) }
+
+  module _ (i : ℕ) (h : i < length l) (count : ℕ) (s : Counted l i count) where
+    pub counted-skip : getD l i 0 ≡ 0 → Counted l (i + 1) count
+    unfolding tally
+    counted-skip e =
+        let f : tally (ltb 0) (drop i l) ≡ tally (ltb 0) (drop (i + 1) l) = rw (drop-next l i 0 h, e) in
+        record { passed = omega arith; few = omega (arith, s .few); is = omega (arith, s .is) }
+
+    pub counted-more : (getD l i 0 ≡ 0 → ⊥) → Counted l (i + 1) (count + 1)
+    unfolding tally
+    counted-more e =
+        let f : tally (ltb 0) (drop i l) ≡ suc (tally (ltb 0) (drop (i + 1) l)) =
+        ap (tally (ltb 0)) (drop-next l i 0 h) ∙ ap (λ (b : Bool). elim b [ true ↦ suc (tally (ltb 0) (drop (i + 1) l)) | false ↦ tally (ltb 0) (drop (i + 1) l) ]) (above (getD l i 0) e) in
+        record { passed = omega arith; few = omega (arith, s .few); is = omega (arith, s .is) }
+
+  pub counted-done : (i count : ℕ) → Counted l i count → length l ≤ i → count ≡ tally (ltb 0) l
   unfolding tally
   counted-done i count s h =
-      let f : tally (ltb 0) (drop i (take n l)) ≡ 0 = ap (tally (ltb 0)) (none-left i (s .passed) h) in
+      let f : tally (ltb 0) (drop i l) ≡ 0 = ap (tally (ltb 0)) (drop-end l i (omega (arith, s .passed))) in
       omega (arith, s .is)
+
+  -- two parts, one after the other
+  pub counted-parts : (a n : ℕ) → a ≤ n → tally (ltb 0) (take a l) + tally (ltb 0) (take (n - a) (drop a l)) ≡ tally (ltb 0) (take n l)
+  counted-parts a n h =
+      let e : a + (n - a) ≡ n = omega arith in
+      sym (tally-append (ltb 0) (take a l) (take (n - a) (drop a l))) ∙ ap (tally (ltb 0)) (sym (take-add a (n - a) l)) ∙ ap (λ (k : ℕ). tally (ltb 0) (take k l)) e
+
+-- ---- the lowest is the length exactly where there is none
+pub lowest-is-length : (l : List ℕ) → tally (ltb 0) l ≡ 0 → lowest l ≡ length l
+unfolding lowest tally
+lowest-is-length [] e = refl
+lowest-is-length (x ∷ l) e = go (ltb 0 x) refl e (lowest-is-length l)
+  where
+    go : (b : Bool) → ltb 0 x ≡ b → tally (ltb 0) (x ∷ l) ≡ 0 → (tally (ltb 0) l ≡ 0 → lowest l ≡ length l) → lowest (x ∷ l) ≡ length (x ∷ l)
+    go true q e ih = absurd (let f : suc (tally (ltb 0) l) ≡ 0 = rw (q, tally) at e in omega arith)
+    go false q e ih = let f : tally (ltb 0) l ≡ 0 = rw (q, tally) at e in rw (q, lowest) (ap suc (ih f))
+
+pub lowest-inside : (l : List ℕ) → (tally (ltb 0) l ≡ 0 → ⊥) → lowest l < length l
+unfolding lowest tally
+lowest-inside [] e = absurd (e refl)
+lowest-inside (x ∷ l) e = go (ltb 0 x) refl e (lowest-inside l)
+  where
+    go : (b : Bool) → ltb 0 x ≡ b → (tally (ltb 0) (x ∷ l) ≡ 0 → ⊥) → ((tally (ltb 0) l ≡ 0 → ⊥) → lowest l < length l) → lowest (x ∷ l) < length (x ∷ l)
+    go true q e ih = rw (q, lowest) (omega arith)
+    go false q e ih = let f : lowest l < length l = ih (λ z. e (rw (q, tally) z)) in rw (q, lowest) (omega arith)
 
 -- the sum of the first i
 abbrev pub sumUpTo : List ℤ → ℕ → ℤ

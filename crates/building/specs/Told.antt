@@ -34,7 +34,7 @@ use Rattle.building.specs.Lists.{tab-ext, take-is-tab, map-tab}
 use Rattle.building.specs.Findings.{number-same, number-few, Early, broken-early}
 use Rattle.building.specs.Holds.{Arrays, heldTables, heldBuilding, Loaded, Found, Summed, Broken, Kept}
 use Rattle.building.specs.Rings.{Ring, ring-of, ring-below, ring-length}
-use Rattle.building.specs.Scans.{lowest, above, sumUpTo, Summable, sum-more}
+use Rattle.building.specs.Scans.{lowest, lowest-is-length, lowest-inside, above, sumUpTo, Summable, sum-more}
 
 -- ---- the lowest finding, as numbers
 lowest-some : (k : ℕ) (fs : List Finding) → lowest (map findingNumber fs) < length fs
@@ -226,15 +226,28 @@ module _ {points : List ℤ} {entries starts : List ℕ} {s : Scalars} (ld : Loa
   pub told-number : (p : ℕ) → p < s .polygons → getD found p 0 ≤ 6
   told-number p h = omega (arith, kp .found .each p h, number-few (finding (s .tolerance) (pointsOf points) (ringAt entries starts p)))
 
-  module _ {low : ℕ} (l : low ≡ lowest (take (s .polygons) found)) (h : s .polygons ≤ low) where
+  abbrev low : ℕ
+  low = lowest (take (s .polygons) found)
+
+  all-told : length (take (s .polygons) found) ≡ s .polygons
+  all-told = length-take-le (s .polygons) found (omega (arith, kp .found .size, ld .begins .few))
+
+  -- where some polygon has a finding, the lowest is one of them
+  pub told-low : {i : ℕ} → i ≡ low → {faults : ℕ} → faults ≡ tally (ltb 0) (take (s .polygons) found) → (faults ≡ 0 → ⊥) → i < s .polygons
+  told-low e g f = omega (arith, lowest-inside (take (s .polygons) found) (λ z. f (g ∙ z)), all-told)
+
+  module _ (sound : tally (ltb 0) (take (s .polygons) found) ≡ 0) where
+    h : s .polygons ≤ low
+    h = omega (arith, lowest-is-length (take (s .polygons) found) sound, all-told)
+
     pub told-edged : Edged (rings entries starts (s .polygons)) table (s .edges) turned (s .fixed)
-    told-edged = ⊎-elim (λ b. absurd (told-whole ld (kp .found) l h b)) (λ ed. ed) (kp .shaped)
+    told-edged = ⊎-elim (λ b. absurd (told-whole ld (kp .found) refl h b)) (λ ed. ed) (kp .shaped)
 
     module _ {sh : Shape} (e : sh ≡ shape (rings entries starts (s .polygons))) {number : ℕ} (n : number ≡ shapeNumber sh) where
       pub says-unsound : (number ≡ 0 → ⊥) → Unsound sh ≡ verdict (heldTables points entries starts s)
       unfolding heldTables
       says-unsound z =
-          sym (told-sound ld (kp .found) l h
+          sym (told-sound ld (kp .found) refl h
           ∙ ap (λ (x : Shape). first Accepted (shapeFault x ∷ given (leZ (sixVolume (heldTables points entries starts s)) (pos 0)) Inward ∷ [])) (sym e)
           ∙ rows-unsound sh (sixVolume (heldTables points entries starts s)) (above (shapeNumber sh) (λ q. z (n ∙ q))))
 
@@ -245,7 +258,7 @@ module _ {points : List ℤ} {entries starts : List ℕ} {s : Scalars} (ld : Loa
         rest : verdict (heldTables points entries starts s) ≡ first Accepted (shapeFault sh ∷ given (leZ v (pos 0)) Inward ∷ [])
         unfolding heldTables
         rest =
-            told-sound ld (kp .found) l h
+            told-sound ld (kp .found) refl h
             ∙ ap₂ (λ (x : Shape) (y : ℤ). first Accepted (shapeFault x ∷ given (leZ y (pos 0)) Inward ∷ [])) (sym e) (sym (w ∙ kept-volume ld (kp .summed)))
 
         pub says-inward : leZ v (pos 0) ≡ true → Inward ≡ verdict (heldTables points entries starts s)

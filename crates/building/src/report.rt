@@ -4,7 +4,7 @@ use super::Verdict;
 use polygon::Finding;
 use shell::Shape;
 ghost use mathlib.Core.Path.{_≡_};
-ghost use Prim.Native.Nat.{_≤_};
+ghost use Prim.Native.Nat.{_+_, _≤_};
 ghost use lib.Dec.{ltb};
 ghost use lib.ListN.{length, take};
 ghost use Rattle.whole.specs.Lists.{tally, sumOf};
@@ -45,20 +45,40 @@ fn lowest_of(findings: &[u8; 256], n: usize) -> usize
     i
 }
 
-// "number of polygons with a finding of their own", of the first n.
-pub fn faults_of(findings: &[u8; 256], n: usize) -> usize
-    requires { ⌜ (n ≤ 256) × (length (now findings) ≡ 256) ⌝ }
-    ensures { λ r. ⌜ r ≡ tally (ltb 0) (take n (now (findings .entry))) ⌝ }
+// How many of at most 255 findings are not 0: counted in a byte, many are tested at a time.
+fn faults_in(part: &[u8]) -> u8
+    requires { ⌜ length (now part) ≤ 255 ⌝ }
+    ensures { λ r. ⌜ r ≡ tally (ltb 0) (now (part .entry)) ⌝ }
 {
-    let mut count: usize = 0;
+    let mut count: u8 = 0;
     let mut i = 0;
-    while i < n {
-        if findings[i] != 0 {
+    while i < part.len() {
+        if part[i] != 0 {
             count += 1;
         }
         i += 1;
     }
     count
+}
+
+// Where to part n polygons, so that neither part is too long to count.
+fn parting(n: usize) -> usize
+    requires { ⌜ n ≤ 256 ⌝ }
+    ensures { λ r. ⌜ (r ≤ n) × ((r ≤ 128) × (n ≤ r + 128)) ⌝ }
+{
+    if n < 128 { n } else { 128 }
+}
+
+// "number of polygons with a finding of their own", of the first n.
+pub fn faults_of(findings: &[u8; 256], n: usize) -> usize
+    requires { ⌜ (n ≤ 256) × (length (now findings) ≡ 256) ⌝ }
+    ensures { λ r. ⌜ r ≡ tally (ltb 0) (take n (now (findings .entry))) ⌝ }
+{
+    let at = parting(n);
+    let all = &findings[..];
+    let front = faults_in(&all[..at]);
+    let back = faults_in(&all[at..n]);
+    front as usize + back as usize
 }
 
 // "The building's six-volume is the sum of the parts": of the first n.
@@ -120,7 +140,8 @@ fn shape_b(s: Shape) -> usize
     }
 }
 
-// The first check that fails, from what is kept: the lowest finding, else the check of the whole, else the six-volume's sign.
+// The first check that fails, from what is kept: the lowest finding, else the check of the whole, else the six-volume's sign. The lowest
+// is looked for only where there is one.
 pub fn verdict_of(
     points: &[i64; 1536],
     entries: &[u16; 1024],
@@ -130,14 +151,17 @@ pub fn verdict_of(
     table: &[u64; 1024],
     turned: &[u8; 256],
     s: Scalars,
+    faults: usize,
+    volume: i64,
 ) -> Verdict
     requires { ⌜ Loaded (now points) (now entries) (now starts) s ⌝ }
     requires { ⌜ Kept (now points) (now entries) (now starts) (now findings) (now parts) (now table) (now turned) s ⌝ }
+    requires { ⌜ (faults ≡ tally (ltb 0) (take (s .polygons) (now findings))) × (volume ≡ sumOf (λ z. z) (take (s .polygons) (now parts))) ⌝ }
     ensures { λ r. ⌜ r ≡ verdict (heldTables (now (points .entry)) (now (entries .entry)) (now (starts .entry)) s) ⌝ }
 {
-    let n = s.polygons;
-    let low = lowest_of(findings, n);
-    if low < n {
+    if faults != 0 {
+        let n = s.polygons;
+        let low = lowest_of(findings, n);
         let found = finding_from(findings[low]);
         return Verdict::Faulty(low, found);
     }
@@ -147,7 +171,7 @@ pub fn verdict_of(
     if shape_number(shape) != 0 {
         return Verdict::Unsound(shape);
     }
-    if six_volume(parts, n) <= 0 {
+    if volume <= 0 {
         return Verdict::Inward;
     }
     Verdict::Accepted

@@ -70,11 +70,22 @@ pub fn put_report(
     ensures { λ r. ⌜ Wrote (ended (reportOf (heldTables (now (points .entry)) (now (entries .entry)) (now (starts .entry)) s))) (now (room .entry)) from (now (room .exit)) r ⌝ }
 {
     let n = s.polygons;
-    let v = building::verdict_of(points, entries, starts, findings, parts, table, turned, s);
+    let faults = building::faults_of(findings, n);
+    let volume = building::six_volume(parts, n);
+    let v = building::verdict_of(
+        points,
+        entries,
+        starts,
+        findings,
+        parts,
+        table,
+        turned,
+        s,
+        faults,
+        volume,
+    );
     let check = building::check_number(v);
     let a = building::element_a(v);
     let b = building::element_b(v);
-    let faults = building::faults_of(findings, n);
-    let volume = building::six_volume(parts, n);
     frame::put_report(room, from, check, a, b, faults, volume)
 }

@@ -1,58 +1,65 @@
--- `building::report::faults_of` meets its contract. The loop keeps: the count, with the tally of what is left, is the whole tally.
-use Prim.Native.Nat.{_-_}
-use mathlib.Core.Logic.{⊎-elim}
+-- `building::report::faults_of` meets its contract: both parts together are the first n.
 use native.Mathlib.Omega.{arith}
+use mathlib.Core.Path.{sym, ap₂, _∙_}
+use Prim.Native.Nat.{ℕ, _+_}
+use lib.Seq.{length-take-le}
 use borrow.Author.Needs.{needs}
-use Rattle.building.specs.Scans.{Counted, counted-none, counted-skip, counted-more, counted-done}
+use Rattle.building.specs.Scans.{counted-parts}
 use Rattle.building.proofs.report.faults_of.Statement.{statement}
 use Rattle.building.proofs.report.faults_of.Tie as tie
 
-abbrev Inv-loop : tie.InvT-loop
-Inv-loop findings n count₀ i₀ count i = Counted findings n i count
+parting-requires : tie.Need-parting-requires
+parting-requires c κs = search needs
 
-abbrev μ-loop : tie.MeasureT-loop
-μ-loop findings n count₀ i₀ count i = n - i
+slice-aggregate-faults-in : tie.Need-slice-aggregate-faults-in
+slice-aggregate-faults-in c =
+    let a = c .before .before .before .args in
+    sym (length-take-le (c .before .before .parting .result) (a .findings .now) (omega (arith, c .before .before .parting .ensures)))
 
-loop-holds : tie.Need-loop-holds Inv-loop μ-loop
-loop-holds c = counted-none (c .args .findings .now) (c .args .n) (omega arith)
+faults-in-requires : tie.Need-faults-in-requires
+faults-in-requires c κs =
+    let a = c .before .before .before .args in
+    omega (arith, length-take-le (c .before .before .parting .result) (a .findings .now) (omega (arith, c .before .before .parting .ensures)), c .before .before .parting .ensures)
 
-element-copy-out-if1 : tie.Need-element-copy-out-if1 Inv-loop μ-loop
-element-copy-out-if1 c = search needs
+sub-faults-in : tie.Need-sub-faults-in
+sub-faults-in c = search needs
 
-add-count : tie.Need-add-count Inv-loop μ-loop
-add-count c = search needs
+part-faults-in-start : tie.Need-part-faults-in-start
+part-faults-in-start c = search needs
 
-add-i : tie.Need-add-i Inv-loop μ-loop
-add-i c = search needs
+part-faults-in-end : tie.Need-part-faults-in-end
+part-faults-in-end c = search needs
 
-loop-less : tie.Need-loop-less Inv-loop μ-loop
-loop-less c = search needs
+faults-in-requires-2 : tie.Need-faults-in-requires-2
+faults-in-requires-2 c κs = search needs
 
-loop-again : tie.Need-loop-again Inv-loop μ-loop
-loop-again c =
-    let s = c .before .before .before .before in
-    let lp = c .before .before .before .loop in
-    ⊎-elim
-    (λ w. rw (w .1) (counted-more (s .args .findings .now) (s .args .n) (omega arith) (lp .i) (c .before .before .loop-test .taken) (lp .count) (lp .inv) (w .0 .taken)))
-    (λ w. rw (w .1) (counted-skip (s .args .findings .now) (s .args .n) (omega arith) (lp .i) (c .before .before .loop-test .taken) (lp .count) (lp .inv) (w .0 .left)))
-    (c .if1 .came)
+cast-result : tie.Need-cast-result
+cast-result c = search needs
 
-returns : tie.Need-returns Inv-loop μ-loop
+cast-result-2 : tie.Need-cast-result-2
+cast-result-2 c = search needs
+
+add-result : tie.Need-add-result
+add-result c = search needs
+
+returns : tie.Need-returns
 returns c =
-    let s = c .before .before in
-    let lp = c .before .loop in
-    counted-done (s .args .findings .now) (s .args .n) (omega arith) (lp .i) (lp .count) (lp .inv) (c .loop-test .left)
+    let a = c .before .before .before .before .before .before .args in
+    let p = c .before .before .before .before .before .parting in
+    ap₂ (λ (x y : ℕ). x + y) (c .before .before .faults-in .ensures) (c .faults-in2 .ensures) ∙ counted-parts (a .findings .now) (p .result) (a .n) (p .ensures .0)
 
 pub faults-of-spec : {M : Type 1} → statement M
 faults-of-spec =
     tie.close
     (tie.spec
-    Inv-loop
-    μ-loop
-    loop-holds
-    element-copy-out-if1
-    add-count
-    add-i
-    loop-less
-    loop-again
+    parting-requires
+    slice-aggregate-faults-in
+    faults-in-requires
+    sub-faults-in
+    part-faults-in-start
+    part-faults-in-end
+    faults-in-requires-2
+    cast-result
+    cast-result-2
+    add-result
     returns)
