@@ -68,7 +68,7 @@ fn finding_number(f: Finding) -> u8
 
 // The finding and the part of polygon p, anew.
 fn refresh(
-    points: &[i64; 1536],
+    points: &[i32; 1536],
     entries: &[u16; 1024],
     starts: &[u16; 257],
     findings: &mut [u8; 256],

@@ -13,7 +13,7 @@ ghost use Rattle.building.specs.Writes.{LoadWrites};
 
 // Every polygon's finding and part.
 fn check_rings(
-    points: &[i64; 1536],
+    points: &[i32; 1536],
     entries: &[u16; 1024],
     starts: &[u16; 257],
     findings: &mut [u8; 256],
@@ -82,7 +82,7 @@ fn lowest_early(findings: &[u8; 256], n: usize) -> usize
 // End of load: "checks the building and holds it with last correction number 0 and all stamps 0". The edges are told of only where
 // every ring passes checks 01 to 03; where one does not, no correction mends it.
 pub fn check_all(
-    points: &[i64; 1536],
+    points: &[i32; 1536],
     entries: &[u16; 1024],
     starts: &[u16; 257],
     stamps: &mut [u32; 256],

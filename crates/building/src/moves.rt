@@ -28,7 +28,7 @@ fn uses(entries: &[u16; 1024], starts: &[u16; 257], p: usize, q: usize, n: u16) 
 
 // Polygon p looked at again and stamped, if its ring lists point n.
 fn touch(
-    points: &[i64; 1536],
+    points: &[i32; 1536],
     entries: &[u16; 1024],
     starts: &[u16; 257],
     stamps: &mut [u32; 256],
@@ -132,7 +132,7 @@ fn group_end(p: usize, polygons: usize) -> usize
 
 // All polygons looked at again whose rings list point n.
 fn look_again(
-    points: &[i64; 1536],
+    points: &[i32; 1536],
     entries: &[u16; 1024],
     starts: &[u16; 257],
     stamps: &mut [u32; 256],
@@ -169,7 +169,7 @@ fn look_again(
 
 // The point stands elsewhere, and the polygons that list it are stamped.
 pub fn move_point(
-    points: &mut [i64; 1536],
+    points: &mut [i32; 1536],
     entries: &[u16; 1024],
     starts: &[u16; 257],
     stamps: &mut [u32; 256],

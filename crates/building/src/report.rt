@@ -143,7 +143,7 @@ fn shape_b(s: Shape) -> usize
 // The first check that fails, from what is kept: the lowest finding, else the check of the whole, else the six-volume's sign. The lowest
 // is looked for only where there is one.
 pub fn verdict_of(
-    points: &[i64; 1536],
+    points: &[i32; 1536],
     entries: &[u16; 1024],
     starts: &[u16; 257],
     findings: &[u8; 256],

@@ -33,7 +33,7 @@ fn reverse_in(entries: &mut [u16; 1024], from: usize, to: usize)
 
 // The part of a ring that has been turned, from what it was: negated where the ring is closed, and otherwise summed anew, since
 // another entry is its first.
-fn turned_part(points: &[i64; 1536], ring: &[u16], before: i64) -> i64
+fn turned_part(points: &[i32; 1536], ring: &[u16], before: i64) -> i64
     requires { ⌜ Coords (now points) ⌝ }
     requires { ⌜ Known (now ring) ⌝ }
     requires { ⌜ before ≡ part (pointsOf (now points)) (reverse (now ring)) ⌝ }
@@ -47,7 +47,7 @@ fn turned_part(points: &[i64; 1536], ring: &[u16], before: i64) -> i64
 
 // Ring p backwards in its place, and its part.
 fn turn_ring(
-    points: &[i64; 1536],
+    points: &[i32; 1536],
     entries: &mut [u16; 1024],
     starts: &[u16; 257],
     parts: &mut [i64; 256],
@@ -70,7 +70,7 @@ fn turn_ring(
 
 // "Turn reverses the polygon's whole list of entries, closing entry included", and stamps it.
 pub fn turn_polygon(
-    points: &[i64; 1536],
+    points: &[i32; 1536],
     entries: &mut [u16; 1024],
     starts: &[u16; 257],
     stamps: &mut [u32; 256],

@@ -14,7 +14,7 @@ ghost use Rattle.checker.specs.Holds.{service, Valid, Did, does, Asked};
 
 // A point moved, and the report.
 pub fn move_point(
-    points: &mut [i64; 1536],
+    points: &mut [i32; 1536],
     entries: &[u16; 1024],
     starts: &[u16; 257],
     stamps: &mut [u32; 256],
@@ -76,7 +76,7 @@ pub fn move_point(
 
 // A polygon turned, and the report.
 pub fn turn_polygon(
-    points: &[i64; 1536],
+    points: &[i32; 1536],
     entries: &mut [u16; 1024],
     starts: &[u16; 257],
     stamps: &mut [u32; 256],

@@ -54,7 +54,7 @@ pub fn refuse(room: &mut [u8], d: Desk, r: Refusal) -> Desk
 
 // The report of the held building, from its kept values.
 pub fn put_report(
-    points: &[i64; 1536],
+    points: &[i32; 1536],
     entries: &[u16; 1024],
     starts: &[u16; 257],
     findings: &[u8; 256],

@@ -50,7 +50,7 @@ pub struct Desk {
 // One line: its frame is refused or taken, and answered.
 fn one(
     line: &[u8],
-    points: &mut [i64; 1536],
+    points: &mut [i32; 1536],
     entries: &mut [u16; 1024],
     starts: &mut [u16; 257],
     stamps: &mut [u32; 256],
@@ -126,7 +126,7 @@ fn one(
     }
 }
 
-fn fresh_points() -> [i64; 1536]
+fn fresh_points() -> [i32; 1536]
     ensures { λ r. ⌜ Coords r ⌝ }
 {
     [0; 1536]

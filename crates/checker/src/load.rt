@@ -58,7 +58,7 @@ pub fn begin(table: &mut [u64; 1024], room: &mut [u8], d: Desk, tolerance: u16) 
 
 // A point more.
 pub fn add_point(
-    points: &mut [i64; 1536],
+    points: &mut [i32; 1536],
     table: &mut [u64; 1024],
     room: &mut [u8],
     d: Desk,
@@ -147,7 +147,7 @@ pub fn add_polygon(
 
 // End of load ends the load, checks the building and holds it.
 pub fn end_load(
-    points: &[i64; 1536],
+    points: &[i32; 1536],
     entries: &[u16; 1024],
     starts: &[u16; 257],
     stamps: &mut [u32; 256],

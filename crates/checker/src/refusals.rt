@@ -34,7 +34,7 @@ fn is_holding(mode: Mode) -> bool
 
 // A point more.
 pub fn of_point(
-    points: &[i64; 1536],
+    points: &[i32; 1536],
     table: &[u64; 1024],
     d: Desk,
     x: i64,
@@ -116,7 +116,7 @@ pub fn of_end(d: Desk) -> Refusal
 
 // A point moved.
 pub fn of_move(
-    points: &[i64; 1536],
+    points: &[i32; 1536],
     d: Desk,
     number: u32,
     p: usize,

@@ -12,7 +12,7 @@ use lib.ListN.{length, getD, take, drop}
 use lib.Seq.{getD-take, length-take-le}
 use lib.IntN.{ℤ, pos, negsuc, natAbs}
 use lib.Signed.{ltZ}
-use mir.Syntax.{w64}
+use mir.Syntax.{w32, w64}
 use mir.Val.{SFits, ofZ, toZ}
 use mir.Facts.{toZ-ofZ}
 use Rattle.whole.specs.Lists.{any, sameZ}
@@ -75,10 +75,17 @@ pub far-is : (x y z : ℤ) (a b c : Bool) → a ≡ ltb 100000 (natAbs x) → b 
 unfolding isFar
 far-is x y z a b c e f g i = e i || f i || g i
 
-pub place-is : {x y z : ℤ} (q : Point) → SFits w64 x → SFits w64 y → SFits w64 z → SFits w64 (q .x) → SFits w64 (q .y) → SFits w64 (q .z)
-    → (eqb (ofZ w64 x) (ofZ w64 (q .x)) && eqb (ofZ w64 y) (ofZ w64 (q .y)) && eqb (ofZ w64 z) (ofZ w64 (q .z))) ≡ samePlace (point3 x y z) q
+-- a coordinate as it is held, read as it is reckoned with
+held-is : {z a : ℤ} → SFits w32 z → a ≡ toZ w32 (ofZ w32 z) → a ≡ z
+held-is h e = e ∙ toZ-ofZ h
+
+pub place-is : {x y z a b c : ℤ} (q : Point) → SFits w64 x → SFits w64 y → SFits w64 z → SFits w64 a → SFits w64 b → SFits w64 c
+    → SFits w32 (q .x) → SFits w32 (q .y) → SFits w32 (q .z) → a ≡ toZ w32 (ofZ w32 (q .x)) → b ≡ toZ w32 (ofZ w32 (q .y)) → c ≡ toZ w32 (ofZ w32 (q .z))
+    → (eqb (ofZ w64 x) (ofZ w64 a) && eqb (ofZ w64 y) (ofZ w64 b) && eqb (ofZ w64 z) (ofZ w64 c)) ≡ samePlace (point3 x y z) q
 unfolding samePlace
-place-is q e f g a b c i = same-bits e a i && same-bits f b i && same-bits g c i
+place-is {x} {y} {z} {a} {b} {c} q fx fy fz fa fb fc hx hy hz ea eb ec =
+    (λ i. same-bits fx fa i && same-bits fy fb i && same-bits fz fc i)
+    ∙ ap (samePlace (point3 x y z)) (λ i. point3 (held-is hx ea i) (held-is hy eb i) (held-is hz ec i))
 
 -- ---- another point's place
 -- whether a place is that of point k, unless that is number n

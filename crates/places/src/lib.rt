@@ -28,17 +28,34 @@ pub fn is_far(x: i64, y: i64, z: i64) -> bool
     beyond(x) | beyond(y) | beyond(z)
 }
 
+// A coordinate as it is held, in half the room, and as it is reckoned with.
+fn narrow(x: i64) -> i32
+    requires { ⌜ Small 100000 x ⌝ }
+    ensures { λ r. ⌜ r ≡ x ⌝ }
+{
+    x as i32
+}
+
+fn wide(x: i32) -> i64
+    ensures { λ r. ⌜ r ≡ x ⌝ }
+{
+    x as i64
+}
+
 // Whether a place is that of point p.
-fn same_place(points: &[i64; 1536], p: usize, x: i64, y: i64, z: i64) -> bool
+fn same_place(points: &[i32; 1536], p: usize, x: i64, y: i64, z: i64) -> bool
     requires { ⌜ (length (now points) ≡ 1536) × (p < 512) ⌝ }
     ensures { λ r. ⌜ r ≡ samePlace (point3 x y z) (placeAt (now (points .entry)) p) ⌝ }
 {
     let i = 3 * p;
-    (x == points[i]) & (y == points[i + 1]) & (z == points[i + 2])
+    let a = wide(points[i]);
+    let b = wide(points[i + 1]);
+    let c = wide(points[i + 2]);
+    (x == a) & (y == b) & (z == c)
 }
 
 // The same, of a point that is not number n.
-fn else_at(points: &[i64; 1536], p: usize, n: usize, x: i64, y: i64, z: i64) -> bool
+fn else_at(points: &[i32; 1536], p: usize, n: usize, x: i64, y: i64, z: i64) -> bool
     requires { ⌜ (length (now points) ≡ 1536) × (p < 512) ⌝ }
     ensures { λ r. ⌜ r ≡ elseAt p n (point3 x y z) (placeAt (now (points .entry)) p) ⌝ }
 {
@@ -49,7 +66,7 @@ fn else_at(points: &[i64; 1536], p: usize, n: usize, x: i64, y: i64, z: i64) -> 
 }
 
 // "the place is that of another point": of one of the first count, but for number n.
-pub fn stands_else(points: &[i64; 1536], count: usize, n: usize, x: i64, y: i64, z: i64) -> bool
+pub fn stands_else(points: &[i32; 1536], count: usize, n: usize, x: i64, y: i64, z: i64) -> bool
     requires { ⌜ (length (now points) ≡ 1536) × (count ≤ 512) ⌝ }
     ensures { λ r. ⌜ r ≡ standsElse n (point3 x y z) (take count (pointsOf (now (points .entry)))) ⌝ }
 {
@@ -63,15 +80,19 @@ pub fn stands_else(points: &[i64; 1536], count: usize, n: usize, x: i64, y: i64,
     false
 }
 
-// Point n at another place.
-pub fn place(points: &mut [i64; 1536], n: usize, x: i64, y: i64, z: i64)
+// Point n at another place, within the bounds.
+pub fn place(points: &mut [i32; 1536], n: usize, x: i64, y: i64, z: i64)
     requires { ⌜ (length (now points) ≡ 1536) × (n < 512) ⌝ }
+    requires { ⌜ isFar (point3 x y z) ≡ false ⌝ }
     ensures { λ _. ⌜ now (points .exit) ≡ placed (now (points .entry)) n (point3 x y z) ⌝ }
 {
     let i = 3 * n;
-    points[i] = x;
-    points[i + 1] = y;
-    points[i + 2] = z;
+    let a = narrow(x);
+    let b = narrow(y);
+    let c = narrow(z);
+    points[i] = a;
+    points[i + 1] = b;
+    points[i + 2] = c;
 }
 
 // A coordinate within its bound, from that bound on.
@@ -104,7 +125,7 @@ pub fn clear(table: &mut [u64; 1024])
 }
 
 // "the place is that of another point": of one of the first n, looked for along the chain of its bucket.
-pub fn is_taken(points: &[i64; 1536], table: &[u64; 1024], n: usize, x: i64, y: i64, z: i64) -> bool
+pub fn is_taken(points: &[i32; 1536], table: &[u64; 1024], n: usize, x: i64, y: i64, z: i64) -> bool
     requires { ⌜ (length (now points) ≡ 1536) × ((n ≤ 512) × (Chained (now points) (now table) n)) ⌝ }
     requires { ⌜ isFar (point3 x y z) ≡ false ⌝ }
     ensures { λ r. ⌜ r ≡ standsElse n (point3 x y z) (take n (pointsOf (now (points .entry)))) ⌝ }

@@ -2,6 +2,7 @@
 use super::Axis;
 use super::boxes;
 use super::plane;
+use super::space;
 ghost use mathlib.Core.Path.{_≡_};
 ghost use Prim.Native.Nat.{_+_, _*_, _<_, _≤_};
 ghost use lib.ListN.{length, getD};
@@ -13,17 +14,17 @@ ghost use Rattle.polygon.specs.Held.{pointsOf, Coords, Known};
 ghost use Rattle.polygon.specs.Leaves.{Filled, seenSpots};
 
 // Coordinate k of point p.
-fn coordinate(points: &[i64; 1536], p: u16, k: usize) -> i64
+fn coordinate(points: &[i32; 1536], p: u16, k: usize) -> i64
     requires { ⌜ Coords (now points) ⌝ }
     requires { ⌜ (p < 512) × (k ≤ 2) ⌝ }
     ensures { λ r. ⌜ r ≡ getD (now (points .entry)) (3 * p + k) (pos 0) ⌝ }
 {
     let i = 3 * (p as usize) + k;
-    points[i]
+    space::wide(points[i])
 }
 
 // Coordinate k of the ring's entries, one after another, into lent room.
-fn fill(points: &[i64; 1536], ring: &[u16], k: usize, room: &mut [i64])
+fn fill(points: &[i32; 1536], ring: &[u16], k: usize, room: &mut [i64])
     requires { ⌜ Coords (now points) ⌝ }
     requires { ⌜ Known (now ring) ⌝ }
     requires { ⌜ (k ≤ 2) × (length (now ring) ≤ length (now room)) ⌝ }
@@ -38,7 +39,7 @@ fn fill(points: &[i64; 1536], ring: &[u16], k: usize, room: &mut [i64])
 }
 
 // 05 of a ring that fits small room, in the plane of coordinates j and k: most rings are such, and large room costs more to clear.
-fn crossed_few(points: &[i64; 1536], ring: &[u16], j: usize, k: usize) -> bool
+fn crossed_few(points: &[i32; 1536], ring: &[u16], j: usize, k: usize) -> bool
     requires { ⌜ Coords (now points) ⌝ }
     requires { ⌜ Known (now ring) ⌝ }
     requires { ⌜ (1 ≤ length (now ring)) × (length (now ring) ≤ 8) × (j ≤ 2) × (k ≤ 2) ⌝ }
@@ -52,7 +53,7 @@ fn crossed_few(points: &[i64; 1536], ring: &[u16], j: usize, k: usize) -> bool
 }
 
 // 05 of any ring, in the plane of coordinates j and k.
-fn crossed_many(points: &[i64; 1536], ring: &[u16], j: usize, k: usize) -> bool
+fn crossed_many(points: &[i32; 1536], ring: &[u16], j: usize, k: usize) -> bool
     requires { ⌜ Coords (now points) ⌝ }
     requires { ⌜ Known (now ring) ⌝ }
     requires { ⌜ (2 ≤ length (now ring)) × (length (now ring) ≤ 128) × (j ≤ 2) × (k ≤ 2) ⌝ }
@@ -66,7 +67,7 @@ fn crossed_many(points: &[i64; 1536], ring: &[u16], j: usize, k: usize) -> bool
 }
 
 // 05 in the plane of coordinates j and k.
-fn crossed_in(points: &[i64; 1536], ring: &[u16], j: usize, k: usize) -> bool
+fn crossed_in(points: &[i32; 1536], ring: &[u16], j: usize, k: usize) -> bool
     requires { ⌜ Coords (now points) ⌝ }
     requires { ⌜ Known (now ring) ⌝ }
     requires { ⌜ (1 ≤ length (now ring)) × (j ≤ 2) × (k ≤ 2) ⌝ }
@@ -79,7 +80,7 @@ fn crossed_in(points: &[i64; 1536], ring: &[u16], j: usize, k: usize) -> bool
 }
 
 // 05 in the plane left by dropping an axis.
-pub fn is_crossed(points: &[i64; 1536], ring: &[u16], axis: Axis) -> bool
+pub fn is_crossed(points: &[i32; 1536], ring: &[u16], axis: Axis) -> bool
     requires { ⌜ Coords (now points) ⌝ }
     requires { ⌜ Known (now ring) ⌝ }
     requires { ⌜ 1 ≤ length (now ring) ⌝ }

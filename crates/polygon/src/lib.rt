@@ -80,7 +80,7 @@ pub fn is_closed(ring: &[u16]) -> bool
 }
 
 // A polygon's part of the six-volume: "the sum, over consecutive entries p, q, of the determinant of first, p, q".
-pub fn part_of(points: &[i64; 1536], ring: &[u16]) -> i64
+pub fn part_of(points: &[i32; 1536], ring: &[u16]) -> i64
     requires { ⌜ Coords (now points) ⌝ }
     requires { ⌜ Known (now ring) ⌝ }
     ensures { λ r. ⌜ r ≡ part (pointsOf (now (points .entry))) (now (ring .entry)) ⌝ }
@@ -130,7 +130,7 @@ fn is_repeated(ring: &[u16]) -> bool
 
 // The finding of a ring whose normal is n: "the first of checks 01 to 06 that fails". A ring of four entries that passes 01
 // to 04 passes 05 and 06 too.
-fn first_failing(points: &[i64; 1536], ring: &[u16], tolerance: u16, n: Place) -> Finding
+fn first_failing(points: &[i32; 1536], ring: &[u16], tolerance: u16, n: Place) -> Finding
     requires { ⌜ Coords (now points) ⌝ }
     requires { ⌜ Known (now ring) ⌝ }
     requires { ⌜ tolerance ≤ 1000 ⌝ }
@@ -162,7 +162,7 @@ fn first_failing(points: &[i64; 1536], ring: &[u16], tolerance: u16, n: Place) -
 }
 
 // A polygon's finding and its part: the normal serves both, the part being first·N.
-pub fn look_at(points: &[i64; 1536], ring: &[u16], tolerance: u16) -> Look
+pub fn look_at(points: &[i32; 1536], ring: &[u16], tolerance: u16) -> Look
     requires { ⌜ Coords (now points) ⌝ }
     requires { ⌜ Known (now ring) ⌝ }
     requires { ⌜ tolerance ≤ 1000 ⌝ }

@@ -13,16 +13,23 @@ ghost use Rattle.polygon.specs.Ring.{normal, isZero, size, isUneven};
 ghost use Rattle.polygon.specs.Held.{pointsOf, placeAt, Coords, Known};
 ghost use Rattle.polygon.specs.Leaves.{asPoint, rowOf, Rows, Nine, Near, at, least, most};
 
+// A coordinate as it is reckoned with; it is held in half the room.
+pub fn wide(x: i32) -> i64
+    ensures { λ r. ⌜ r ≡ x ⌝ }
+{
+    x as i64
+}
+
 // Where point p stands.
-pub fn place_of(points: &[i64; 1536], p: u16) -> Place
+pub fn place_of(points: &[i32; 1536], p: u16) -> Place
     requires { ⌜ Coords (now points) ⌝ }
     requires { ⌜ p < 512 ⌝ }
     ensures { λ r. ⌜ asPoint r ≡ placeAt (now (points .entry)) p ⌝ }
 {
     let i = 3 * (p as usize);
-    let x = points[i];
-    let y = points[i + 1];
-    let z = points[i + 2];
+    let x = wide(points[i]);
+    let y = wide(points[i + 1]);
+    let z = wide(points[i + 2]);
     Place { x, y, z }
 }
 
@@ -52,7 +59,7 @@ fn determinant(m: [[i64; 3]; 3]) -> i64
 }
 
 // "the determinant of first, p, q"
-pub fn determinant_of(points: &[i64; 1536], first: u16, p: u16, q: u16) -> i64
+pub fn determinant_of(points: &[i32; 1536], first: u16, p: u16, q: u16) -> i64
     requires { ⌜ Coords (now points) ⌝ }
     requires { ⌜ (first < 512) × (p < 512) × (q < 512) ⌝ }
     ensures { λ r. ⌜ r ≡ determinant (placeAt (now (points .entry)) first) (placeAt (now (points .entry)) p) (placeAt (now (points .entry)) q) ⌝ }
@@ -73,7 +80,7 @@ pub fn determinant_of(points: &[i64; 1536], first: u16, p: u16, q: u16) -> i64
 }
 
 // q relative to p.
-fn toward(points: &[i64; 1536], p: u16, q: u16) -> Place
+fn toward(points: &[i32; 1536], p: u16, q: u16) -> Place
     requires { ⌜ Coords (now points) ⌝ }
     requires { ⌜ (p < 512) × (q < 512) ⌝ }
     ensures { λ r. ⌜ asPoint r ≡ relativeTo (placeAt (now (points .entry)) p) (placeAt (now (points .entry)) q) ⌝ }
@@ -125,7 +132,7 @@ pub fn dot(a: Place, b: Place) -> i64
 
 // "the normal N is the sum, over consecutive entries, of the cross product of the two". Each entry's way from the first is
 // found once, and kept for the next step.
-pub fn normal(points: &[i64; 1536], ring: &[u16]) -> Place
+pub fn normal(points: &[i32; 1536], ring: &[u16]) -> Place
     requires { ⌜ Coords (now points) ⌝ }
     requires { ⌜ Known (now ring) ⌝ }
     requires { ⌜ 1 ≤ length (now ring) ⌝ }
@@ -217,7 +224,7 @@ pub fn largest_axis(n: Place) -> Axis
 }
 
 // Whether the size of N·(p - first) exceeds a limit.
-fn is_off(points: &[i64; 1536], n: Place, first: u16, p: u16, limit: i64) -> bool
+fn is_off(points: &[i32; 1536], n: Place, first: u16, p: u16, limit: i64) -> bool
     requires { ⌜ Coords (now points) ⌝ }
     requires { ⌜ (first < 512) × (p < 512) ⌝ }
     requires { ⌜ Near 10160000000000 (asPoint n) ⌝ }
@@ -227,7 +234,7 @@ fn is_off(points: &[i64; 1536], n: Place, first: u16, p: u16, limit: i64) -> boo
 }
 
 // 06: "for some point p, the size of N·(p - first) exceeds tolerance times the largest size of N's components"
-pub fn is_uneven(points: &[i64; 1536], ring: &[u16], tolerance: u16, n: Place) -> bool
+pub fn is_uneven(points: &[i32; 1536], ring: &[u16], tolerance: u16, n: Place) -> bool
     requires { ⌜ Coords (now points) ⌝ }
     requires { ⌜ Known (now ring) ⌝ }
     requires { ⌜ (1 ≤ length (now ring)) × (tolerance ≤ 1000) ⌝ }

@@ -8,47 +8,65 @@ use Rattle.places.proofs.same_place.Tie as tie
 mul-i : tie.Need-mul-i
 mul-i c = search needs
 
-mul-result : tie.Need-mul-result
-mul-result c = search needs
+mul-wide : tie.Need-mul-wide
+mul-wide c = search needs
 
-element-copy-out-result : tie.Need-element-copy-out-result
-element-copy-out-result c = search needs
+element-copy-out-wide : tie.Need-element-copy-out-wide
+element-copy-out-wide c = search needs
 
-add-result : tie.Need-add-result
-add-result c = search needs
+wide-requires : tie.Need-wide-requires
+wide-requires c κs = search needs
 
-mul-result-2 : tie.Need-mul-result-2
-mul-result-2 c = search needs
+add-wide : tie.Need-add-wide
+add-wide c = search needs
 
-element-copy-out-result-2 : tie.Need-element-copy-out-result-2
-element-copy-out-result-2 c = search needs
+mul-wide-2 : tie.Need-mul-wide-2
+mul-wide-2 c = search needs
 
-add-result-2 : tie.Need-add-result-2
-add-result-2 c = search needs
+element-copy-out-wide-2 : tie.Need-element-copy-out-wide-2
+element-copy-out-wide-2 c = search needs
 
-mul-result-3 : tie.Need-mul-result-3
-mul-result-3 c = search needs
+wide-requires-2 : tie.Need-wide-requires-2
+wide-requires-2 c κs = search needs
 
-element-copy-out-result-3 : tie.Need-element-copy-out-result-3
-element-copy-out-result-3 c = search needs
+add-wide-2 : tie.Need-add-wide-2
+add-wide-2 c = search needs
+
+mul-wide-3 : tie.Need-mul-wide-3
+mul-wide-3 c = search needs
+
+element-copy-out-wide-3 : tie.Need-element-copy-out-wide-3
+element-copy-out-wide-3 c = search needs
+
+wide-requires-3 : tie.Need-wide-requires-3
+wide-requires-3 c κs = search needs
 
 returns : tie.Need-returns
 returns c =
-    let s = c .before .before .before in
+    let s = c .before .before .before .before .before .before in
     let f = s .fits in
-    place-is (placeAt (s .args .points .now) (s .args .p)) (f .x) (f .y) (f .z) (record { sfits = c .before .before .result .given }) (record { sfits = c .before .result2 .given }) (record { sfits = c .result3 .given })
+    let a = c .before .before .before .before .wide in
+    let b = c .before .before .wide2 in
+    let d = c .wide3 in
+    place-is (placeAt (s .args .points .now) (s .args .p)) (f .x) (f .y) (f .z)
+    (record { sfits = a .ok }) (record { sfits = b .ok }) (record { sfits = d .ok })
+    (record { sfits = c .before .before .before .before .before .wide-arg .given }) (record { sfits = c .before .before .before .wide-arg2 .given }) (record { sfits = c .before .wide-arg3 .given })
+    (a .ensures) (b .ensures) (d .ensures)
 
 pub same-place-spec : {M : Type 1} → statement M
 same-place-spec =
     tie.close
     (tie.spec
     mul-i
-    mul-result
-    element-copy-out-result
-    add-result
-    mul-result-2
-    element-copy-out-result-2
-    add-result-2
-    mul-result-3
-    element-copy-out-result-3
+    mul-wide
+    element-copy-out-wide
+    wide-requires
+    add-wide
+    mul-wide-2
+    element-copy-out-wide-2
+    wide-requires-2
+    add-wide-2
+    mul-wide-3
+    element-copy-out-wide-3
+    wide-requires-3
     returns)

@@ -27,7 +27,7 @@ is-accepted-requires c κs = search needs
 place-requires : tie.Need-place-requires
 place-requires c κs =
     let fit = c .before .before .before .before .of-point .ensures .fit (sym (c .before .before .before .is-accepted .ensures) ∙ c .before .before .if1 .taken) in
-    (c .before .before .before .before .before .before .before .before .pre .1 .room, fit .0)
+    ((c .before .before .before .before .before .before .before .before .pre .1 .room, fit .0), fit .1)
 
 link-requires : tie.Need-link-requires
 link-requires c κs =
