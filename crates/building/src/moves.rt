@@ -52,7 +52,7 @@ fn touch(
 
 // The polygons from one up to another looked at again whose rings list point n.
 fn look_at_each(
-    points: &[i64; 1536],
+    points: &[i32; 1536],
     entries: &[u16; 1024],
     starts: &[u16; 257],
     stamps: &mut [u32; 256],
@@ -89,7 +89,7 @@ fn look_at_each(
 
 // The same, where no polygon need be touched if none of them lists the point.
 fn look_through(
-    points: &[i64; 1536],
+    points: &[i32; 1536],
     entries: &[u16; 1024],
     starts: &[u16; 257],
     stamps: &mut [u32; 256],
