@@ -1,20 +1,22 @@
 -- How often a number stands in a sorted list, by its runs.
 use Prim.Native.Nat.{ℕ, zero, suc, _+_, _-_, _≤_, _<_, zero-le, suc-le-suc}
-use native.Mathlib.Nat.{le-antisymm, le-of-suc-le-suc, not-suc-le-zero}
+use native.Mathlib.Nat.{le-refl, le-antisymm, le-of-suc-le-suc, not-suc-le-zero}
 use native.Mathlib.Decide.{ℕ-discrete, decLt}
 use native.Mathlib.Omega.{arith}
 use mathlib.Core.Path.{_≡_, refl, sym, ap, _∙_}
+use mathlib.Core.Bool.{Bool, true, _&&_, not}
 use mathlib.Core.Logic.{_≢_, by-cases}
 use mathlib.Core.List.{List, [], _∷_, map}
-use borrow.Author.Tests.{eq-eqb, ne-eqb}
+use borrow.Author.Tests.{eqb-true, eqb-false, not-true, eq-eqb, ne-eqb}
 use lib.Dec.{eqb}
 use lib.ListN.{length, getD, length-map, List·getD-map}
+use Rattle.whole.specs.Bools.{and-left, and-right}
 use Rattle.shell.specs.Edges.{count}
 use Rattle.shell.specs.Tallies.{tally-cons, tally-nil, one-yes, one-no}
 use Rattle.shell.specs.Table.{keyOf}
 use Rattle.shell.specs.Ascending.{Asc, places-asc}
 use Rattle.shell.specs.Steps.{SortedTo}
-use Rattle.shell.specs.Marking.{RunEnd, Between, LeastAt}
+use Rattle.shell.specs.Marking.{RunEnd, Between, LeastAt, Twice}
 
 -- a list's count of k, by whether its head is k
 pub count-yes : (k x : ℕ) (l : List ℕ) → x ≡ k → count k (x ∷ l) ≡ suc (count k l)
@@ -173,6 +175,44 @@ module _ (least most : ℕ) (l : List ℕ) (i : ℕ) (s : SortedTo l (length l))
             let v : getD l i 0 < getD l r 0 = by-cases (decLt (getD l i 0) (getD l r 0)) (λ x. x) (λ n. absurd (e .stop lt (omega arith))) in
             by-cases (decLt p i) (λ x. omega (arith, f .fresh h p x)) (λ n. omega (arith, e .same p (omega arith) pr))
 
+-- what holds where a sweep by pairs has come to i: no search for counts other than 2 would have stopped
+abbrev pub Pairing : List ℕ → ℕ → Type 0
+Pairing l i = (least most : ℕ) → 1 ≤ least → ((least ≤ 2) × (2 ≤ most) → ⊥) → Finding least most l i
+
+pub pairing-none : (l : List ℕ) → Pairing l 0
+pairing-none l least most some bad = find-none least most l
+
+-- the run of two words that begins at i
+pub pair-run : (l : List ℕ) (i : ℕ) → i + 1 < length l → getD l (i + 1) 0 ≡ getD l i 0 → (i + 2 < length l → getD l (i + 2) 0 ≡ getD l i 0 → ⊥) → RunEnd l i (i + 2)
+pair-run l i h e d = record {
+  above = omega arith;
+  within = omega arith;
+  same = λ k a b. same-more l i (i + 1) (same-one l i) e k a (omega arith);
+  stop = d;
+}
+
+module _ (l : List ℕ) (i : ℕ) (s : SortedTo l (length l)) (f : Pairing l i) where
+  pub pairing-more : i < length l → RunEnd l i (i + 2) → Pairing l (i + 2)
+  pairing-more h e least most some bad = find-more least most l i s some (f least most some bad) (i + 2) h e (λ b. bad (omega (arith, b .0), omega (arith, b .1)))
+
+  pub twice-paired : length l ≤ i → Twice l
+  twice-paired h k some =
+      by-cases (ℕ-discrete (count k l) 2) (λ e. e)
+      (λ n. absurd (find-out (count k l) (count k l) l i s some (f (count k l) (count k l) some (λ b. n (le-antisymm (b .0) (b .1)))) h .missing h k (record { enough = le-refl (count k l); few = le-refl (count k l) })))
+
+pub twice-none : (l : List ℕ) → Twice l → (least most : ℕ) → 1 ≤ least → ((least ≤ 2) × (2 ≤ most) → ⊥) → LeastAt (Between least most l) l (length l)
+twice-none l t least most some bad = record {
+  within = le-refl (length l);
+  found = λ lt. absurd (no-both lt);
+  missing = λ _ k b. bad (omega (arith, b .enough, two k b), omega (arith, b .few, two k b));
+}
+  where
+    no-both : length l < length l → ⊥
+    no-both lt = omega arith
+
+    two : (k : ℕ) → Between least most l k → count k l ≡ 2
+    two k b = t k (omega (arith, b .enough))
+
 -- the keys of words, place by place
 pub key-at : (l : List ℕ) (i : ℕ) → getD (map keyOf l) i 0 ≡ keyOf (getD l i 0)
 key-at l i = List·getD-map keyOf l i 0
@@ -195,3 +235,22 @@ key-below l i h = rw length-map h
 
 pub key-above : (l : List ℕ) (i : ℕ) → length l ≤ i → length (map keyOf l) ≤ i
 key-above l i h = rw length-map h
+
+-- a pair of words of one edge, in a sweep that has found pairs alone up to i where `two` holds
+module _ (l : List ℕ) (asc : Asc l) (i a b : ℕ) (two : Bool) (f : two ≡ true → Pairing (map keyOf l) i) (ha : a ≡ keyOf (getD l i 0)) (hb : b ≡ keyOf (getD l (i + 1) 0)) where
+  pair-here : i + 1 < length l → (two && eqb a b) ≡ true → (i + 2 < length (map keyOf l) → getD (map keyOf l) (i + 2) 0 ≡ getD (map keyOf l) i 0 → ⊥) → Pairing (map keyOf l) (i + 2)
+  pair-here h e stop =
+      let same : b ≡ a = sym (eqb-true a b (and-right two (eqb a b) e)) in
+      pairing-more (map keyOf l) i (keys-sorted l asc) (f (and-left two (eqb a b) e)) (key-below l i (omega arith)) (pair-run (map keyOf l) i (key-below l (i + 1) h) (keys-same l i (i + 1) b a hb ha same) stop)
+
+  pub pair-next : (c : ℕ) → c ≡ keyOf (getD l (i + 2) 0) → i + 2 < length l → ((two && eqb a b) && not (eqb b c)) ≡ true → Pairing (map keyOf l) (i + 2)
+  pair-next c hc h e =
+      let pair : (two && eqb a b) ≡ true = and-left (two && eqb a b) (not (eqb b c)) e in
+      let same : a ≡ b = eqb-true a b (and-right two (eqb a b) pair) in
+      pair-here (omega arith) pair (λ _. keys-differ l i (i + 2) c a hc ha (λ z. eqb-false b c (not-true (eqb b c) (and-right (two && eqb a b) (not (eqb b c)) e)) (sym same ∙ sym z)))
+
+  pub pair-last : i + 2 ≡ length l → (two && eqb a b) ≡ true → Twice (map keyOf l)
+  pair-last h e = twice-paired (map keyOf l) (i + 2) (keys-sorted l asc) (pair-here (omega arith) e (λ lt. absurd (past (rw length-map at lt)))) (key-above l (i + 2) (omega arith))
+    where
+      past : i + 2 < length l → ⊥
+      past lt = omega arith

@@ -20,6 +20,10 @@ pub record Between (least most : ℕ) (l : List ℕ) (k : ℕ) : Type 0 where
   pub enough : least ≤ count k l
   pub few : count k l ≤ most
 
+-- each number of l stands there twice
+abbrev pub Twice : List ℕ → Type 0
+Twice l = (k : ℕ) → 1 ≤ count k l → count k l ≡ 2
+
 -- the least number with a property
 pub record Least (P : ℕ → Type 0) (k : ℕ) : Type 0 where
   pub holds : P k
