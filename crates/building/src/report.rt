@@ -45,9 +45,9 @@ fn lowest_of(findings: &[u8; 256], n: usize) -> usize
     i
 }
 
-// How many of at most 255 findings are not 0: counted in a byte, many are tested at a time.
+// How many of at most 128 findings are not 0: counted in a byte, many are tested at a time.
 fn faults_in(part: &[u8]) -> u8
-    requires { ⌜ length (now part) ≤ 255 ⌝ }
+    requires { ⌜ length (now part) ≤ 128 ⌝ }
     ensures { λ r. ⌜ r ≡ tally (ltb 0) (now (part .entry)) ⌝ }
 {
     let mut count: u8 = 0;
