@@ -13,7 +13,8 @@ use Rattle.whole.specs.Size.{Small}
 use Rattle.whole.specs.Places.{map-at}
 use Rattle.whole.specs.Search.{any-here, any-next, any-end}
 use Rattle.polygon.specs.Space.{Point, origin, relativeTo, dot, places}
-use Rattle.polygon.specs.Ring.{relative, size, isUneven}
+use Rattle.polygon.specs.Ring.{isUnclosed, relative, normal, size, isUneven}
+use Rattle.polygon.specs.Quad.{quad-uneven}
 use Rattle.polygon.specs.Held.{pointsOf, placeAt, Coords, Known}
 use Rattle.polygon.specs.Leaves.{Near}
 use Rattle.polygon.specs.Sizes.{point-at}
@@ -74,3 +75,16 @@ module _ {tolerance : ℕ} {n : Point} {flat : List ℤ} {ring : List ℕ} {limi
 
     pub even-next : r ≡ false → Even tolerance n (pointsOf flat) ring limit (i + 1)
     even-next t = record { upto = omega arith; level = e .level; rest = sym (any-next (beyond tolerance n) (ways (pointsOf flat) ring) i origin inside (sym test ∙ t)) ∙ e .rest }
+
+-- of four corners, the second tells of all
+pub bent-is : (tolerance : ℕ) {n : Point} {flat : List ℤ} {ring : List ℕ} {limit : ℤ} → Coords flat → Known ring → length ring ≡ 5 → isUnclosed ring ≡ false → n ≡ normal (places (pointsOf flat) ring)
+    → limit ≡ pos (tolerance * size n)
+    → ltZ limit (pos (natAbs (dot n (relativeTo (placeAt flat (getD ring 0 0)) (placeAt flat (getD ring 1 0)))))) ≡ isUneven tolerance n (places (pointsOf flat) ring)
+bent-is tolerance {n} {flat} {ring} h k five closed e f =
+    let way : relativeTo (placeAt flat (getD ring 0 0)) (placeAt flat (getD ring 1 0)) ≡ relativeTo (getD (pointsOf flat) (getD ring 0 0) origin) (getD (pointsOf flat) (getD ring 1 0) origin) =
+    λ j. relativeTo (sym (point-at h (getD ring 0 0) (k .each 0 (omega arith))) j) (sym (point-at h (getD ring 1 0) (k .each 1 (omega arith))) j)
+    in
+    (λ j. ltZ (f j) (pos (natAbs (dot n (way j)))))
+    ∙ ap (λ (m : Point). beyond tolerance m (relativeTo (getD (pointsOf flat) (getD ring 0 0) origin) (getD (pointsOf flat) (getD ring 1 0) origin))) e
+    ∙ sym (quad-uneven (pointsOf flat) ring five closed tolerance)
+    ∙ ap (λ (m : Point). isUneven tolerance m (places (pointsOf flat) ring)) (sym e)

@@ -163,9 +163,13 @@ pub record Walk (flat : List ℤ) (ring : List ℕ) (n first : ℕ) (way : Point
   pub sums : Sums (pointsOf flat) ring first last i x y z
 
 -- the ways of a step, as code finds them
-pub way-is : {flat : List ℤ} {ring : List ℕ} {n first last i : ℕ} {p : Point} (e : ℕ) → Coords flat → Going ring n first last i → e < 512
-    → p ≡ relativeTo (placeAt flat first) (placeAt flat e) → p ≡ relativeTo (getD (pointsOf flat) first origin) (getD (pointsOf flat) e origin)
-way-is {first = first} e h g k q = q ∙ (λ i. relativeTo (sym (point-at h first (g .head-known)) i) (sym (point-at h e k) i))
+way-of : {flat : List ℤ} {p : Point} → Coords flat → (a e : ℕ) → a < 512 → e < 512 → p ≡ relativeTo (placeAt flat a) (placeAt flat e) → p ≡ relativeTo (getD (pointsOf flat) a origin) (getD (pointsOf flat) e origin)
+way-of h a e k l q = q ∙ (λ i. relativeTo (sym (point-at h a k) i) (sym (point-at h e l) i))
+
+-- and their cross product
+pub cross-of : {flat : List ℤ} {p q : Point} → Coords flat → (a e f : ℕ) → a < 512 → e < 512 → f < 512
+    → p ≡ relativeTo (placeAt flat a) (placeAt flat e) → q ≡ relativeTo (placeAt flat a) (placeAt flat f) → cross p q ≡ crossStep (pointsOf flat) a e f
+cross-of h a e f ka ke kf x y = λ j. cross (way-of h a e ka ke x j) (way-of h a f ka kf y j)
 
 pub way-near : {flat : List ℤ} {p : Point} (a e : ℕ) → Coords flat → p ≡ relativeTo (placeAt flat a) (placeAt flat e) → Near 200000 p
 way-near a e h q = near-same q (near-way (near-place h a) (near-place h e))
@@ -175,5 +179,5 @@ pub cross-next : {flat : List ℤ} {ring : List ℕ} {n first last i : ℕ} {p q
     → p ≡ relativeTo (placeAt flat first) (placeAt flat last) → q ≡ relativeTo (placeAt flat first) (placeAt flat (getD ring i 0)) → r ≡ cross p q
     → (axis : Axis) → (on axis r ≡ normalStep (pointsOf flat) first axis last (getD ring i 0)) × Small 80000000000 (on axis r)
 cross-next {flat} {ring} {n} {first} {last} {i} {p} {q} {r} h k g l e f c axis =
-    let same : r ≡ crossStep (pointsOf flat) first last (getD ring i 0) = c ∙ (λ j. cross (way-is last h g (g .last-known) e j) (way-is (getD ring i 0) h g (going-next k g l .last-known) f j)) in
+    let same : r ≡ crossStep (pointsOf flat) first last (getD ring i 0) = c ∙ cross-of h first last (getD ring i 0) (g .head-known) (g .last-known) (going-next k g l .last-known) e f in
     (ap (on axis) same, on-near axis (near-same c (near-cross (way-near first last h e) (way-near first (getD ring i 0) h f))))

@@ -11,14 +11,14 @@ use lib.Dec.{eqb, leb, ltb}
 use lib.ListN.{length, getD}
 use lib.IntN.{ℤ, pos, negsuc, natAbs, _+ℤ_, _-ℤ_, _*ℤ_}
 use Rattle.whole.specs.Solve.{k, _⊕_, _⊖_, _⊗_, ring, _≔_}
-use Rattle.whole.specs.Lists.{any, anyTwo, steps, stepsFrom, numbered, numberedFrom, lastOf, sameZ}
+use Rattle.whole.specs.Lists.{any, anyTwo, steps, stepsFrom, numbered, numberedFrom, front, lastOf, sameZ}
 use Rattle.whole.specs.Search.{two-next}
 use Rattle.whole.specs.All.{none, more, none-any}
 use Rattle.polygon.specs.declared.Axis.{Axis}
 use Rattle.polygon.specs.declared.Axis.the-variants.{X, Y, Z}
 use Rattle.polygon.specs.Space.{Point, origin, plus, relativeTo, cross, dot, places}
 use Rattle.polygon.specs.Plane.{largestAxis, Spot, dropAxis, side, turnOff, shareMore}
-use Rattle.polygon.specs.Ring.{isUnclosed, relative, normal, isZero, follows, forbidden, edgesIn, isCrossed, size, isUneven}
+use Rattle.polygon.specs.Ring.{isUnclosed, isRepeated, relative, normal, isZero, follows, forbidden, edgesIn, isCrossed, size, isUneven}
 use Rattle.polygon.specs.Laws.{axis-x, axis-y, axis-z}
 use Rattle.polygon.specs.Leaves.{at, on}
 
@@ -37,7 +37,7 @@ module _ (a b c : Spot) where
       go = ring 6 (λ p q r s t w. (r ⊖ p) ⊗ (w ⊖ s) ⊖ (s ⊖ q) ⊗ (t ⊖ r) ≔ (r ⊖ p) ⊗ (w ⊖ q) ⊖ (s ⊖ q) ⊗ (t ⊖ p)) tt
 
   -- the area is the same from wherever it is begun
-  side-round : side b c a ≡ side a b c
+  pub side-round : side b c a ≡ side a b c
   unfolding side
   side-round = go (a .u) (a .v) (b .u) (b .v) (c .u) (c .v)
     where
@@ -45,12 +45,12 @@ module _ (a b c : Spot) where
       go = ring 6 (λ p q r s t w. (t ⊖ r) ⊗ (q ⊖ s) ⊖ (w ⊖ s) ⊗ (p ⊖ r) ≔ (r ⊖ p) ⊗ (w ⊖ q) ⊖ (s ⊖ q) ⊗ (t ⊖ p)) tt
 
   -- so it does not go back over it
-  no-more : sameZ (side a b c) (pos 0) ≡ false → shareMore (a, b) (b, c) ≡ false
+  pub no-more : sameZ (side a b c) (pos 0) ≡ false → shareMore (a, b) (b, c) ≡ false
   unfolding shareMore
   no-more e = rw (turn-second, e)
 
 -- of three, no two are related, if the first and the second are not, nor the first and the third, nor the second and the third
-three : {A : Type 0} (r : A → A → Bool) (x y z : A) → r x y ≡ false → r x z ≡ false → r y z ≡ false → anyTwo r (x ∷ y ∷ z ∷ []) ≡ false
+pub three : {A : Type 0} (r : A → A → Bool) (x y z : A) → r x y ≡ false → r x z ≡ false → r y z ≡ false → anyTwo r (x ∷ y ∷ z ∷ []) ≡ false
 unfolding anyTwo any
 three r x y z p q s =
     two-next r (x ∷ y ∷ z ∷ []) 0 x (omega arith) (none-any (r x) (y ∷ z ∷ []) (more p (more q none)))
@@ -62,6 +62,29 @@ uncrossed a b c e =
     let f : sameZ (side b c a) (pos 0) ≡ false = ap (λ (z : ℤ). sameZ z (pos 0)) (side-round a b c) ∙ e in
     let g : sameZ (side c a b) (pos 0) ≡ false = ap (λ (z : ℤ). sameZ z (pos 0)) (side-round b c a) ∙ f in
     three (forbidden 3) (0, (a, b)) (1, (b, c)) (2, (c, a)) (no-more a b c e) (no-more c a b g) (no-more b c a f)
+
+-- ---- numbers of places that are the corners of some area differ
+level-first : (a c : Spot) → side a a c ≡ pos 0
+unfolding side
+level-first a c = go (a .u) (a .v) (c .u) (c .v)
+  where
+    go : (p q t w : ℤ) → (p -ℤ p) *ℤ (w -ℤ q) -ℤ (q -ℤ q) *ℤ (t -ℤ p) ≡ pos 0
+    go = ring 4 (λ p q t w. (p ⊖ p) ⊗ (w ⊖ q) ⊖ (q ⊖ q) ⊗ (t ⊖ p) ≔ k (pos 0)) tt
+
+one-apart : (m n : ℕ) {z : ℤ} → (m ≡ n → z ≡ pos 0) → sameZ z (pos 0) ≡ false → eqb m n ≡ false
+unfolding sameZ
+one-apart m n f h = go (eqb m n) refl
+  where
+    go : (t : Bool) → eqb m n ≡ t → t ≡ false
+    go true e = absurd (true≢false (sym (ap (λ (z : ℤ). sameZ z (pos 0)) (f (eqb-true m n e))) ∙ h))
+    go false e = refl
+
+pub differ : (spot : ℕ → Spot) (a b c : ℕ) → sameZ (side (spot a) (spot b) (spot c)) (pos 0) ≡ false → (eqb a b ≡ false) × (eqb a c ≡ false) × (eqb b c ≡ false)
+differ spot a b c h = (
+  one-apart a b (λ e. ap (λ (n : ℕ). side (spot a) (spot n) (spot c)) (sym e) ∙ level-first (spot a) (spot c)) h,
+  one-apart a c (λ e. ap (λ (n : ℕ). side (spot n) (spot b) (spot c)) e ∙ side-round (spot c) (spot c) (spot b) ∙ level-first (spot c) (spot b)) h,
+  one-apart b c (λ e. ap (λ (n : ℕ). side (spot a) (spot n) (spot c)) e ∙ side-round (spot c) (spot a) (spot c) ∙ side-round (spot c) (spot c) (spot a) ∙ level-first (spot c) (spot a)) h,
+)
 
 -- ---- N of a triangle
 module _ (a b c : Point) where
@@ -79,7 +102,7 @@ module _ (a b c : Point) where
           ≔ (r ⊖ p) ⊗ (w ⊖ q) ⊖ (s ⊖ q) ⊗ (t ⊖ p)) tt
 
   -- its component on an axis is twice the signed area in the plane left by dropping it
-  area-is : (axis : Axis) → side (dropAxis axis a) (dropAxis axis b) (dropAxis axis c) ≡ on axis (cross (relativeTo a b) (relativeTo a c))
+  pub area-is : (axis : Axis) → side (dropAxis axis a) (dropAxis axis b) (dropAxis axis c) ≡ on axis (cross (relativeTo a b) (relativeTo a c))
   unfolding side dropAxis cross relativeTo
   area-is X = refl
   area-is Y = refl
@@ -126,7 +149,7 @@ unfolding size isZero
 all-zero n h = rw (zero-of (n .x) (omega arith), zero-of (n .y) (omega arith), zero-of (n .z) (omega arith))
 
 -- so where N is not 0, that component is not
-largest-some : (n : Point) → isZero n ≡ false → sameZ (on (largestAxis n) n) (pos 0) ≡ false
+pub largest-some : (n : Point) → isZero n ≡ false → sameZ (on (largestAxis n) n) (pos 0) ≡ false
 largest-some n e = go (sameZ (on (largestAxis n) n) (pos 0)) refl
   where
     go : (t : Bool) → sameZ (on (largestAxis n) n) (pos 0) ≡ t → t ≡ false
@@ -134,7 +157,7 @@ largest-some n e = go (sameZ (on (largestAxis n) n) (pos 0)) refl
     go false f = refl
 
 -- ---- N·(p - first) is 0 for each of the three points
-upright-own : (n p : Point) → dot n (relativeTo p p) ≡ pos 0
+pub upright-own : (n p : Point) → dot n (relativeTo p p) ≡ pos 0
 unfolding dot relativeTo
 upright-own n p = go (n .x) (n .y) (n .z) (p .x) (p .y) (p .z)
   where
@@ -156,10 +179,10 @@ upright-other p q = go (p .x) (p .y) (p .z) (q .x) (q .y) (q .z)
     go = ring 6 (λ a b c p q r. (b ⊗ r ⊖ c ⊗ q) ⊗ p ⊕ (c ⊗ p ⊖ a ⊗ r) ⊗ q ⊕ (a ⊗ q ⊖ b ⊗ p) ⊗ r ≔ k (pos 0)) tt
 
 -- which exceeds no tolerance
-abbrev far : ℕ → Point → Point → Bool
+abbrev pub far : ℕ → Point → Point → Bool
 far tolerance n p = ltb (tolerance * size n) (natAbs (dot n p))
 
-within : (tolerance : ℕ) (n p : Point) → dot n p ≡ pos 0 → far tolerance n p ≡ false
+pub within : (tolerance : ℕ) (n p : Point) → dot n p ≡ pos 0 → far tolerance n p ≡ false
 within tolerance n p e = ap (λ (z : ℤ). ltb (tolerance * size n) (natAbs z)) e ∙ le-ltb (tolerance * size n) 0 (omega arith)
 
 -- ---- the two checks, of three points and the first again
@@ -184,36 +207,47 @@ module _ (a b c : Point) where
       own p q = within tolerance (cross p q) (relativeTo a a) (upright-own (cross p q) a)
 
 -- ---- a closed ring of four entries
-record Corners (ps : List Point) : Type 0 where
-  a : Point
-  b : Point
-  c : Point
-  are : ps ≡ round a b c
-
-corners : (points : List Point) (ring : List ℕ) → length ring ≡ 4 → isUnclosed ring ≡ false → Corners (places points ring)
-unfolding isUnclosed lastOf places
-corners points [] e f = absurd (omega arith)
-corners points (a ∷ []) e f = absurd (omega arith)
-corners points (a ∷ b ∷ []) e f = absurd (omega arith)
-corners points (a ∷ b ∷ c ∷ []) e f = absurd (omega arith)
-corners points (a ∷ b ∷ c ∷ d ∷ []) e f =
-    let g : ℕ → Point = λ n. getD points n origin in
-    let same : d ≡ a = sym (eqb-true a d (not-false (eqb a d) f)) in
-    record { a = g a; b = g b; c = g c; are = ap (λ (x : ℕ). g a ∷ g b ∷ g c ∷ g x ∷ []) same }
-corners points (a ∷ b ∷ c ∷ d ∷ x ∷ l) e f = absurd (omega arith)
+ring-three : (ring : List ℕ) → length ring ≡ 4 → isUnclosed ring ≡ false → ring ≡ round (getD ring 0 0) (getD ring 1 0) (getD ring 2 0)
+unfolding isUnclosed lastOf
+ring-three [] e f = absurd (omega arith)
+ring-three (a ∷ []) e f = absurd (omega arith)
+ring-three (a ∷ b ∷ []) e f = absurd (omega arith)
+ring-three (a ∷ b ∷ c ∷ []) e f = absurd (omega arith)
+ring-three (a ∷ b ∷ c ∷ d ∷ []) e f = ap (λ (x : ℕ). a ∷ b ∷ c ∷ x ∷ []) (sym (eqb-true a d (not-false (eqb a d) f)))
+ring-three (a ∷ b ∷ c ∷ d ∷ x ∷ l) e f = absurd (omega arith)
 
 module _ (points : List Point) (ring : List ℕ) (four : length ring ≡ 4) (closed : isUnclosed ring ≡ false) where
   abbrev ps : List Point
   ps = places points ring
 
+  -- where its entry i stands
+  abbrev spot-of : ℕ → Point
+  spot-of i = getD points (getD ring i 0) origin
+
+  places-three : ps ≡ round (spot-of 0) (spot-of 1) (spot-of 2)
+  unfolding places
+  places-three = ap (places points) (ring-three ring four closed)
+
+  -- N is one cross product
+  pub triangle-normal : normal ps ≡ cross (relativeTo (spot-of 0) (spot-of 1)) (relativeTo (spot-of 0) (spot-of 2))
+  triangle-normal = ap normal places-three ∙ normal-is (spot-of 0) (spot-of 1) (spot-of 2)
+
   -- 05 does not fail
   pub triangle-uncrossed : isZero (normal ps) ≡ false → isCrossed (edgesIn (largestAxis (normal ps)) ps) ≡ false
   triangle-uncrossed =
-      let k = corners points ring four closed in
-      subst (λ (l : List Point). isZero (normal l) ≡ false → isCrossed (edgesIn (largestAxis (normal l)) l) ≡ false) (sym (k .are)) (crossed-none (k .a) (k .b) (k .c))
+      subst (λ (l : List Point). isZero (normal l) ≡ false → isCrossed (edgesIn (largestAxis (normal l)) l) ≡ false) (sym places-three) (crossed-none (spot-of 0) (spot-of 1) (spot-of 2))
 
   -- 06 does not fail, at any tolerance
   pub triangle-even : (tolerance : ℕ) → isUneven tolerance (normal ps) ps ≡ false
-  triangle-even tolerance =
-      let k = corners points ring four closed in
-      subst (λ (l : List Point). isUneven tolerance (normal l) l ≡ false) (sym (k .are)) (uneven-none (k .a) (k .b) (k .c) tolerance)
+  triangle-even tolerance = subst (λ (l : List Point). isUneven tolerance (normal l) l ≡ false) (sym places-three) (uneven-none (spot-of 0) (spot-of 1) (spot-of 2) tolerance)
+
+  -- 03 does not fail where 04 does not: two entries of one number would leave no area
+  pub triangle-single : isZero (normal ps) ≡ false → isRepeated ring ≡ false
+  unfolding isRepeated front
+  triangle-single e =
+      let axis = largestAxis (normal ps) in
+      let some : sameZ (side (dropAxis axis (spot-of 0)) (dropAxis axis (spot-of 1)) (dropAxis axis (spot-of 2))) (pos 0) ≡ false =
+      ap (λ (z : ℤ). sameZ z (pos 0)) (area-is (spot-of 0) (spot-of 1) (spot-of 2) axis ∙ ap (on axis) (sym triangle-normal)) ∙ largest-some (normal ps) e
+      in
+      let d = differ (λ n. dropAxis axis (getD points n origin)) (getD ring 0 0) (getD ring 1 0) (getD ring 2 0) some in
+      ap isRepeated (ring-three ring four closed) ∙ three eqb (getD ring 0 0) (getD ring 1 0) (getD ring 2 0) (d .0) (d .1) (d .2)

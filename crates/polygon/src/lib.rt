@@ -2,11 +2,12 @@
 
 mod boxes;
 mod columns;
+mod corners;
 mod plane;
 mod space;
 
 ghost use mathlib.Core.Path.{_≡_};
-ghost use mathlib.Core.Bool.{not};
+ghost use mathlib.Core.Bool.{false, not};
 ghost use Prim.Native.Nat.{_≤_};
 ghost use lib.Dec.{eqb};
 ghost use lib.ListN.{length};
@@ -128,8 +129,31 @@ fn is_repeated(ring: &[u16]) -> bool
     stands_twice(&ring[..last])
 }
 
-// The finding of a ring whose normal is n: "the first of checks 01 to 06 that fails". A ring of four entries that passes 01
-// to 04 passes 05 and 06 too.
+// The finding of a ring that passes 01 and 02, and whose normal is n.
+fn third_on(points: &[i32; 1536], ring: &[u16], tolerance: u16, n: Place) -> Finding
+    requires { ⌜ Coords (now points) ⌝ }
+    requires { ⌜ Known (now ring) ⌝ }
+    requires { ⌜ (tolerance ≤ 1000) × (4 ≤ length (now ring)) × (isUnclosed (now ring) ≡ false) ⌝ }
+    requires { ⌜ asPoint n ≡ normal (places (pointsOf (now points)) (now ring)) ⌝ }
+    ensures { λ r. ⌜ r ≡ finding tolerance (pointsOf (now (points .entry))) (now (ring .entry)) ⌝ }
+{
+    if is_repeated(ring) {
+        return Finding::Repeated;
+    }
+    if space::is_zero(n) {
+        return Finding::NoNormal;
+    }
+    if columns::is_crossed(points, ring, space::largest_axis(n)) {
+        return Finding::Crossed;
+    }
+    if space::is_uneven(points, ring, tolerance, n) {
+        return Finding::Uneven;
+    }
+    Finding::Sound
+}
+
+// The finding of a ring whose normal is n: "the first of checks 01 to 06 that fails". Three corners whose normal is not zero
+// pass them all, and four that go round one way all but 06.
 fn first_failing(points: &[i32; 1536], ring: &[u16], tolerance: u16, n: Place) -> Finding
     requires { ⌜ Coords (now points) ⌝ }
     requires { ⌜ Known (now ring) ⌝ }
@@ -143,22 +167,46 @@ fn first_failing(points: &[i32; 1536], ring: &[u16], tolerance: u16, n: Place) -
     if !is_closed(ring) {
         return Finding::Unclosed;
     }
-    if is_repeated(ring) {
-        return Finding::Repeated;
-    }
-    if space::is_zero(n) {
-        return Finding::NoNormal;
-    }
     if ring.len() == 4 {
-        return Finding::Sound;
+        if !space::is_zero(n) {
+            return Finding::Sound;
+        }
     }
-    if columns::is_crossed(points, ring, space::largest_axis(n)) {
-        return Finding::Crossed;
+    if ring.len() == 5 {
+        if corners::is_convex(points, ring, space::largest_axis(n)) {
+            if corners::is_bent(points, ring, tolerance, n) {
+                return Finding::Uneven;
+            }
+            return Finding::Sound;
+        }
     }
-    if space::is_uneven(points, ring, tolerance, n) {
-        return Finding::Uneven;
+    third_on(points, ring, tolerance, n)
+}
+
+// The normal of a ring: that of few corners needs no loop.
+fn normal_of(points: &[i32; 1536], ring: &[u16]) -> Place
+    requires { ⌜ Coords (now points) ⌝ }
+    requires { ⌜ Known (now ring) ⌝ }
+    requires { ⌜ 1 ≤ length (now ring) ⌝ }
+    ensures { λ r. ⌜ asPoint r ≡ normal (places (pointsOf (now (points .entry))) (now (ring .entry))) ⌝ }
+{
+    let m = ring.len();
+    if is_closed(ring) {
+        if m == 4 {
+            let a = ring[0];
+            let b = ring[1];
+            let c = ring[2];
+            return corners::normal_of_three(points, a, b, c);
+        }
+        if m == 5 {
+            let a = ring[0];
+            let b = ring[1];
+            let c = ring[2];
+            let d = ring[3];
+            return corners::normal_of_four(points, a, b, c, d);
+        }
     }
-    Finding::Sound
+    space::normal(points, ring)
 }
 
 // A polygon's finding and its part: the normal serves both, the part being first·N.
@@ -175,7 +223,7 @@ pub fn look_at(points: &[i32; 1536], ring: &[u16], tolerance: u16) -> Look
             part: 0,
         };
     }
-    let n = space::normal(points, ring);
+    let n = normal_of(points, ring);
     let first = ring[0];
     let part = space::dot(n, space::place_of(points, first));
     let finding = first_failing(points, ring, tolerance, n);

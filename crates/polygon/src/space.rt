@@ -2,7 +2,7 @@
 use super::Axis;
 use super::Place;
 ghost use mathlib.Core.Path.{_≡_};
-ghost use Prim.Native.Nat.{_<_, _≤_};
+ghost use Prim.Native.Nat.{_*_, _<_, _≤_};
 ghost use lib.ListN.{length};
 ghost use lib.IntN.{pos, natAbs};
 ghost use lib.Signed.{ltZ};
@@ -80,7 +80,7 @@ pub fn determinant_of(points: &[i32; 1536], first: u16, p: u16, q: u16) -> i64
 }
 
 // q relative to p.
-fn toward(points: &[i32; 1536], p: u16, q: u16) -> Place
+pub fn toward(points: &[i32; 1536], p: u16, q: u16) -> Place
     requires { ⌜ Coords (now points) ⌝ }
     requires { ⌜ (p < 512) × (q < 512) ⌝ }
     ensures { λ r. ⌜ asPoint r ≡ relativeTo (placeAt (now (points .entry)) p) (placeAt (now (points .entry)) q) ⌝ }
@@ -100,7 +100,7 @@ fn toward(points: &[i32; 1536], p: u16, q: u16) -> Place
 }
 
 // The cross product of two ways.
-fn cross(a: Place, b: Place) -> Place
+pub fn cross(a: Place, b: Place) -> Place
     requires { ⌜ (Near 200000 (asPoint a)) × (Near 200000 (asPoint b)) ⌝ }
     ensures { λ r. ⌜ asPoint r ≡ cross (asPoint a) (asPoint b) ⌝ }
 {
@@ -223,8 +223,17 @@ pub fn largest_axis(n: Place) -> Axis
     Axis::Z
 }
 
+// "tolerance times the largest size of N's components"
+pub fn allowed(tolerance: u16, n: Place) -> i64
+    requires { ⌜ tolerance ≤ 1000 ⌝ }
+    requires { ⌜ Near 10160000000000 (asPoint n) ⌝ }
+    ensures { λ r. ⌜ r ≡ pos (tolerance * size (asPoint n)) ⌝ }
+{
+    (tolerance as i64) * largest(n)
+}
+
 // Whether the size of N·(p - first) exceeds a limit.
-fn is_off(points: &[i32; 1536], n: Place, first: u16, p: u16, limit: i64) -> bool
+pub fn is_off(points: &[i32; 1536], n: Place, first: u16, p: u16, limit: i64) -> bool
     requires { ⌜ Coords (now points) ⌝ }
     requires { ⌜ (first < 512) × (p < 512) ⌝ }
     requires { ⌜ Near 10160000000000 (asPoint n) ⌝ }
@@ -241,7 +250,7 @@ pub fn is_uneven(points: &[i32; 1536], ring: &[u16], tolerance: u16, n: Place) -
     requires { ⌜ Near 10160000000000 (asPoint n) ⌝ }
     ensures { λ r. ⌜ r ≡ isUneven tolerance (asPoint n) (places (pointsOf (now (points .entry))) (now (ring .entry))) ⌝ }
 {
-    let limit = (tolerance as i64) * largest(n);
+    let limit = allowed(tolerance, n);
     let first = ring[0];
     let mut i: usize = 0;
     while i < ring.len() {

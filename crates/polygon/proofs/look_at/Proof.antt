@@ -18,8 +18,8 @@ returns c =
     let a = c .before .before .args in
     (found-short (a .tolerance) (pointsOf (a .points .now)) (a .ring .now) (omega arith), part-none (pointsOf (a .points .now)) (a .ring .now) (omega arith))
 
-normal-requires : tie.Need-normal-requires
-normal-requires c κs = search needs
+normal-of-requires : tie.Need-normal-of-requires
+normal-of-requires c κs = search needs
 
 shared-slice-read-first : tie.Need-shared-slice-read-first
 shared-slice-read-first c = search needs
@@ -30,7 +30,7 @@ place-of-requires c κs = let s = c .before .before .before .before in (s .pre .
 dot-requires : tie.Need-dot-requires
 dot-requires c κs =
     let s = c .before .before .before .before .before in
-    (near-same (c .before .before .normal .ensures) (normal-near (s .pre .0) (s .pre .1 .0)), near-same (c .place-of .ensures) (near-more (omega arith) (near-place (s .pre .0) (getD (s .args .ring .now) 0 0))))
+    (near-same (c .before .before .normal-of .ensures) (normal-near (s .pre .0) (s .pre .1 .0)), near-same (c .place-of .ensures) (near-more (omega arith) (near-place (s .pre .0) (getD (s .args .ring .now) 0 0))))
 
 first-failing-requires : tie.Need-first-failing-requires
 first-failing-requires c κs = search needs
@@ -40,7 +40,7 @@ returns-2 c =
     let s = c .before .before .before .before .before .before .before in
     let some : 1 ≤ length (s .args .ring .now) = omega (arith, c .before .before .before .before .before .if1 .left) in (
       c .first-failing .ensures,
-      call-is w64 (c .before .dot .ok) (c .before .dot .ensures ∙ about-first (s .pre .0) (s .pre .1 .0) some (c .before .before .before .before .normal .ensures) (c .before .before .place-of .ensures)),
+      call-is w64 (c .before .dot .ok) (c .before .dot .ensures ∙ about-first (s .pre .0) (s .pre .1 .0) some (c .before .before .before .before .normal-of .ensures) (c .before .before .place-of .ensures)),
     )
 
 pub look-at-spec : {M : Type 1} → statement M
@@ -48,7 +48,7 @@ look-at-spec =
     tie.close
     (tie.spec
     returns
-    normal-requires
+    normal-of-requires
     shared-slice-read-first
     place-of-requires
     dot-requires

@@ -1,0 +1,111 @@
+-- `polygon::third_on` meets its contract. Each return is the row of the table whose test holds where no earlier one does.
+use native.Mathlib.Omega.{arith}
+use mathlib.Core.Path.{_≡_, _∙_, sym, ap}
+use mathlib.Core.Bool.{false}
+use mathlib.Core.List.{List}
+use borrow.Author.Needs.{needs}
+use Rattle.polygon.specs.Sizes.{near-same, normal-near}
+use Rattle.polygon.specs.Held.{pointsOf}
+use Rattle.polygon.specs.Ring.{isRepeated, normal, isZero, edgesIn, isCrossed, isUneven}
+use Rattle.polygon.specs.Plane.{largestAxis}
+use Rattle.polygon.specs.Leaves.{Near, asPoint}
+use Rattle.polygon.specs.Space.{Point, places}
+use Rattle.polygon.specs.declared.Axis.{Axis}
+use Rattle.polygon.proofs.Order.{found-repeated, found-no-normal, found-crossed, found-uneven, found-sound}
+use Rattle.polygon.proofs.third_on.Statement.{statement}
+use Rattle.polygon.proofs.third_on.Tie as tie
+
+-- ---- the places of the ring, its points and its normal, from the start
+abbrev table : tie.Start → List Point
+table c = pointsOf (c .args .points .now)
+
+abbrev spots : tie.Start → List Point
+spots c = places (table c) (c .args .ring .now)
+
+near : (c : tie.Start) → Near 10160000000000 (asPoint (c .args .n))
+near c = near-same (c .pre .1 .1 .1) (normal-near (c .pre .0) (c .pre .1 .0))
+
+-- ---- what each check told
+single : (c : tie.Else1) → isRepeated (c .before .before .before .args .ring .now) ≡ false
+single c = sym (c .before .is-repeated .ensures) ∙ c .if1 .left
+
+zero-is : (c : tie.After-is-zero) → isZero (normal (spots (c .before .before .before .before))) ≡ c .is-zero .result
+zero-is c = ap isZero (sym (c .before .before .before .before .pre .1 .1 .1)) ∙ sym (c .is-zero .ensures)
+
+some : (c : tie.Else2) → isZero (normal (spots (c .before .before .before .before .before))) ≡ false
+some c = zero-is (c .before) ∙ c .if2 .left
+
+crossed-is : (c : tie.After-is-crossed) → let s = spots (c .before .before .before .before .before .before .before) in isCrossed (edgesIn (largestAxis (normal s)) s) ≡ c .is-crossed .result
+crossed-is c =
+    let s = c .before .before .before .before .before .before .before in
+    ap (λ (x : Axis). isCrossed (edgesIn x (spots s))) (sym (c .before .largest-axis .ensures ∙ ap largestAxis (s .pre .1 .1 .1))) ∙ sym (c .is-crossed .ensures)
+
+uncrossed : (c : tie.Else3) → let s = spots (c .before .before .before .before .before .before .before .before) in isCrossed (edgesIn (largestAxis (normal s)) s) ≡ false
+uncrossed c = crossed-is (c .before) ∙ c .if3 .left
+
+uneven-is : (c : tie.After-is-uneven) → let s = c .before .before .before .before .before .before .before .before .before in isUneven (s .args .tolerance) (normal (spots s)) (spots s) ≡ c .is-uneven .result
+uneven-is c = let s = c .before .before .before .before .before .before .before .before .before in ap (λ (n : Point). isUneven (s .args .tolerance) n (spots s)) (sym (s .pre .1 .1 .1)) ∙ sym (c .is-uneven .ensures)
+
+-- ---- the needs
+is-repeated-requires : tie.Need-is-repeated-requires
+is-repeated-requires c κs = search needs
+
+returns : tie.Need-returns
+returns c =
+    let s = c .before .before .before in
+    let h = s .pre .1 .1 .0 in
+    found-repeated (s .args .tolerance) (table s) (s .args .ring .now) (h .1) (h .2) (sym (c .before .is-repeated .ensures) ∙ c .if1 .taken)
+
+is-zero-requires : tie.Need-is-zero-requires
+is-zero-requires c κs = near (c .before .before .before)
+
+returns-2 : tie.Need-returns-2
+returns-2 c =
+    let s = c .before .before .before .before .before in
+    let h = s .pre .1 .1 .0 in
+    found-no-normal (s .args .tolerance) (table s) (s .args .ring .now) (h .1) (h .2) (single (c .before .before)) (zero-is (c .before) ∙ c .if2 .taken)
+
+largest-axis-requires : tie.Need-largest-axis-requires
+largest-axis-requires c κs = near (c .before .before .before .before .before)
+
+is-crossed-requires : tie.Need-is-crossed-requires
+is-crossed-requires c κs = search needs
+
+returns-3 : tie.Need-returns-3
+returns-3 c =
+    let s = c .before .before .before .before .before .before .before .before in
+    let h = s .pre .1 .1 .0 in
+    found-crossed (s .args .tolerance) (table s) (s .args .ring .now) (h .1) (h .2) (single (c .before .before .before .before .before)) (some (c .before .before .before)) (crossed-is (c .before) ∙ c .if3 .taken)
+
+is-uneven-requires : tie.Need-is-uneven-requires
+is-uneven-requires c κs =
+    let s = c .before .before .before .before .before .before .before .before in
+    let h = s .pre .1 .1 .0 in
+    (s .pre .0, (s .pre .1 .0, ((omega (arith, h .1), h .0), near s)))
+
+returns-4 : tie.Need-returns-4
+returns-4 c =
+    let s = c .before .before .before .before .before .before .before .before .before .before in
+    let h = s .pre .1 .1 .0 in
+    found-uneven (s .args .tolerance) (table s) (s .args .ring .now) (h .1) (h .2) (single (c .before .before .before .before .before .before .before)) (some (c .before .before .before .before .before)) (uncrossed (c .before .before)) (uneven-is (c .before) ∙ c .if4 .taken)
+
+returns-5 : tie.Need-returns-5
+returns-5 c =
+    let s = c .before .before .before .before .before .before .before .before .before .before in
+    let h = s .pre .1 .1 .0 in
+    found-sound (s .args .tolerance) (table s) (s .args .ring .now) (h .1) (h .2) (single (c .before .before .before .before .before .before .before)) (some (c .before .before .before .before .before)) (uncrossed (c .before .before)) (uneven-is (c .before) ∙ c .if4 .left)
+
+pub third-on-spec : {M : Type 1} → statement M
+third-on-spec =
+    tie.close
+    (tie.spec
+    is-repeated-requires
+    returns
+    is-zero-requires
+    returns-2
+    largest-axis-requires
+    is-crossed-requires
+    returns-3
+    is-uneven-requires
+    returns-4
+    returns-5)
