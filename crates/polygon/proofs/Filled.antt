@@ -29,15 +29,15 @@ pub filling-start : (flat : List ℤ) (ring : List ℕ) (k : ℕ) (room : List �
 filling-start flat ring k room = record { upto = omega arith; all = refl; each = λ j h. absurd (omega arith) }
 
 -- one number more of a copy, whatever is copied
-pub copy-more : (f : ℕ → ℤ) (room : List ℤ) (i : ℕ) → i < length room → ((j : ℕ) → j < i → getD room j (pos 0) ≡ f j)
-    → (x : ℤ) → x ≡ f i → (j : ℕ) → j < i + 1 → getD (set room i x) j (pos 0) ≡ f j
-copy-more f room i h each x e j g = go (decLt j i)
+pub copy-more : {A : Type 0} (d : A) (f : ℕ → A) (room : List A) (i : ℕ) → i < length room → ((j : ℕ) → j < i → getD room j d ≡ f j)
+    → (x : A) → x ≡ f i → (j : ℕ) → j < i + 1 → getD (set room i x) j d ≡ f j
+copy-more d f room i h each x e j g = go (decLt j i)
   where
-    go : Dec (j < i) → getD (set room i x) j (pos 0) ≡ f j
-    go (yes p) = getD-set-other room i j x (pos 0) (λ z. omega arith) ∙ each j p
+    go : Dec (j < i) → getD (set room i x) j d ≡ f j
+    go (yes p) = getD-set-other room i j x d (λ z. omega arith) ∙ each j p
     go (no p) =
         let z : j ≡ i = omega arith in
-        ap (λ (m : ℕ). getD (set room i x) m (pos 0)) z ∙ getD-set-same room i x (pos 0) h ∙ e ∙ ap f (sym z)
+        ap (λ (m : ℕ). getD (set room i x) m d) z ∙ getD-set-same room i x d h ∙ e ∙ ap f (sym z)
 
 pub filling-more : {flat : List ℤ} {ring : List ℕ} {k n : ℕ} {room : List ℤ} {i : ℕ} → Filling flat ring k n room i → i < length ring → i < length room
     → (x : ℤ) → x ≡ getD flat (3 * getD ring i 0 + k) (pos 0) → Filling flat ring k n (set room i x) (i + 1)
@@ -45,7 +45,7 @@ filling-more {flat} {ring} {k} {n} {room} {i} f l h x e =
     record {
       upto = omega arith;
       all = length-set room i x ∙ f .all;
-      each = copy-more (λ j. getD flat (3 * getD ring j 0 + k) (pos 0)) room i h (f .each) x e;
+      each = copy-more (pos 0) (λ j. getD flat (3 * getD ring j 0 + k) (pos 0)) room i h (f .each) x e;
     }
 
 pub filling-end : {flat : List ℤ} {ring : List ℕ} {k n : ℕ} {room : List ℤ} {i : ℕ} → Filling flat ring k n room i → i ≡ length ring → Filled flat ring k n room

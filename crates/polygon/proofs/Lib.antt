@@ -7,5 +7,6 @@ mod Even
 mod Stretches
 mod Pairs
 mod Filled
+mod Covering
 mod Nearness
 mod Order

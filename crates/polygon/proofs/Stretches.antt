@@ -42,7 +42,7 @@ above c p q h e = lt-test (lt-le-lt c p q (lt-yes refl refl e) h)
 
 module _ (p q : ℤ) where
   -- the larger of two is below what both are below, and only then
-  most-below : (c : ℤ) → ltZ p c ≡ true → ltZ q c ≡ true → ltZ (most p q) c ≡ true
+  pub most-below : (c : ℤ) → ltZ p c ≡ true → ltZ q c ≡ true → ltZ (most p q) c ≡ true
   most-below c a b = go (ltZ q p)
     where
       go : (t : Bool) → ltZ (cond t p q) c ≡ true
@@ -56,7 +56,7 @@ module _ (p q : ℤ) where
       go true z e = (e, below q p c (lt-le (lt-yes refl refl z)) e)
       go false z e = (below p q c (lt-no refl refl z) e, e)
 
-  least-above : (c : ℤ) → ltZ c p ≡ true → ltZ c q ≡ true → ltZ c (least p q) ≡ true
+  pub least-above : (c : ℤ) → ltZ c p ≡ true → ltZ c q ≡ true → ltZ c (least p q) ≡ true
   least-above c a b = go (ltZ q p)
     where
       go : (t : Bool) → ltZ c (cond t q p) ≡ true

@@ -1,54 +1,108 @@
-// Check 05 of longer rings: most edges are told apart by their boxes, eight at a time.
+// Check 05 of longer rings: most edges are told apart by their boxes, eight at a time, and by the boxes of blocks of eight edges.
+// Room of 176 numbers holds the ends of edges' boxes from 0 on and of blocks' boxes from 144 on; both are followed by room for eight more.
 use super::plane;
-use super::space;
 ghost use mathlib.Core.Path.{_≡_};
-ghost use mathlib.Core.Bool.{_||_};
+ghost use mathlib.Core.Bool.{true, _||_};
 ghost use Prim.Native.Nat.{_+_, _<_, _≤_};
 ghost use lib.ListN.{length, drop};
 ghost use Rattle.whole.specs.Lists.{any, numbered, tab};
 ghost use Rattle.whole.specs.Size.{Small};
 ghost use Rattle.polygon.specs.Ring.{forbidden, isCrossed};
 ghost use Rattle.polygon.specs.Leaves.{edgeAt, Spread};
-ghost use Rattle.polygon.specs.Boxes.{ending, Line, Endings, Boxes, parted, Parted};
+ghost use Rattle.polygon.specs.Boxes.{step, ending, Line, Steps, Endings, Ahead, Blocks, Covered, Sides, Boxes, parted, Parted};
 
-// A coordinate, in half the room.
-fn narrow(z: i64) -> i32
+// Which step of four numbers a coordinate is on: in so little room, eight are held against a box at once.
+fn step(z: i64) -> u16
     requires { ⌜ Small 100000 z ⌝ }
-    ensures { λ r. ⌜ r ≡ z ⌝ }
+    ensures { λ r. ⌜ r ≡ step z ⌝ }
 {
-    z as i32
+    ((z + 100000) as u64 / 4) as u16
 }
 
-// The largest of two coordinates, or the least.
-fn ending(p: i64, q: i64, high: bool) -> i32
-    requires { ⌜ (Small 100000 p) × (Small 100000 q) ⌝ }
+// The steps of the places of m edges on one axis, into lent room.
+fn steps(us: &[i64], m: usize, room: &mut [u16])
+    requires { ⌜ Line (now us) m ⌝ }
+    requires { ⌜ (m ≤ 128) × (length (now room) ≡ 176) ⌝ }
+    ensures { λ _. ⌜ Steps (now (us .entry)) m (now (room .exit)) ⌝ }
+{
+    let mut i: usize = 0;
+    while i <= m {
+        let x = step(us[i]);
+        room[i] = x;
+        i += 1;
+    }
+}
+
+// The largest of two numbers, or the least.
+fn ending(p: u16, q: u16, high: bool) -> u16
     ensures { λ r. ⌜ r ≡ ending high p q ⌝ }
 {
     if high {
-        return narrow(space::upper(p, q));
+        return if p < q { q } else { p };
     }
-    narrow(space::lower(p, q))
+    if q < p { q } else { p }
 }
 
-// The largest number of each of m edges on one axis, or the least, into lent room.
-fn endings(us: &[i64], m: usize, high: bool, room: &mut [i32])
-    requires { ⌜ Line (now us) m ⌝ }
-    requires { ⌜ m ≤ length (now room) ⌝ }
-    ensures { λ _. ⌜ Endings (now (us .entry)) high m (length (now (room .entry))) (now (room .exit)) ⌝ }
+// The largest number of each edge on one axis, or the least, into lent room; as many turns for every ring, so that eight are made at once.
+fn endings(ps: &[u16], high: bool, room: &mut [u16])
+    requires { ⌜ (length (now ps) ≡ 176) × (length (now room) ≡ 176) ⌝ }
+    ensures { λ _. ⌜ Endings (now (ps .entry)) high (now (room .exit)) ⌝ }
 {
     let mut i: usize = 0;
-    while i < m {
+    while i < 144 {
         let next = i + 1;
-        let p = us[i];
-        let q = us[next];
-        let x = ending(p, q, high);
+        let x = ending(ps[i], ps[next], high);
         room[i] = x;
         i = next;
     }
 }
 
+// A number that none of the eight from j on is above, or below.
+fn furthest(room: &[u16], j: usize, high: bool) -> u16
+    requires { ⌜ (length (now room) ≡ 176) × (j < 128) ⌝ }
+    ensures { λ r. ⌜ Ahead (now (room .entry)) high j (j + 8) r ⌝ }
+{
+    let mut x = room[j];
+    let mut n: usize = 0;
+    while n < 8 {
+        let k = j + n;
+        x = ending(x, room[k], high);
+        n += 1;
+    }
+    x
+}
+
+// The ends of the blocks' boxes, behind those of m edges.
+fn blocks(m: usize, high: bool, room: &mut [u16])
+    requires { ⌜ (m ≤ 128) × (length (now room) ≡ 176) ⌝ }
+    ensures { λ _. ⌜ Blocks m high (now (room .entry)) (now (room .exit)) ⌝ }
+{
+    let mut b: usize = 0;
+    while 8 * b < m {
+        let x = furthest(room, 8 * b, high);
+        let k = 144 + b;
+        room[k] = x;
+        b += 1;
+    }
+}
+
+// The ends on one axis: places past the last stand where the last does, and widen no block.
+fn sides(us: &[i64], m: usize, ls: &mut [u16], hs: &mut [u16])
+    requires { ⌜ Line (now us) m ⌝ }
+    requires { ⌜ (m ≤ 128) × (length (now ls) ≡ 176) × (length (now hs) ≡ 176) ⌝ }
+    ensures { λ _. ⌜ Sides (now (us .entry)) m (now (ls .exit)) (now (hs .exit)) ⌝ }
+{
+    let last = step(us[m]);
+    let mut ps: [u16; 176] = [last; 176];
+    steps(us, m, &mut ps);
+    endings(&ps, false, ls);
+    endings(&ps, true, hs);
+    blocks(m, false, ls);
+    blocks(m, true, hs);
+}
+
 // Whether edges i and k have no number in common on one axis.
-fn parted(ls: &[i32], hs: &[i32], i: usize, k: usize) -> bool
+fn parted(ls: &[u16], hs: &[u16], i: usize, k: usize) -> bool
     requires { ⌜ (i < length (now ls)) × (i < length (now hs)) × (k < length (now ls)) × (k < length (now hs)) ⌝ }
     ensures { λ r. ⌜ r ≡ parted (now (ls .entry)) (now (hs .entry)) i k ⌝ }
 {
@@ -56,9 +110,9 @@ fn parted(ls: &[i32], hs: &[i32], i: usize, k: usize) -> bool
 }
 
 // Whether the boxes of the eight edges from j on are parted from edge i's: no step of this branches.
-fn eight_parted(lus: &[i32], hus: &[i32], lvs: &[i32], hvs: &[i32], i: usize, j: usize) -> bool
-    requires { ⌜ (length (now lus) ≡ 136) × (length (now hus) ≡ 136) × (length (now lvs) ≡ 136) × (length (now hvs) ≡ 136) ⌝ }
-    requires { ⌜ (i < 128) × (j < 128) ⌝ }
+fn eight_parted(lus: &[u16], hus: &[u16], lvs: &[u16], hvs: &[u16], i: usize, j: usize) -> bool
+    requires { ⌜ (length (now lus) ≡ 176) × (length (now hus) ≡ 176) × (length (now lvs) ≡ 176) × (length (now hvs) ≡ 176) ⌝ }
+    requires { ⌜ (i < 144) × (j + 8 ≤ 176) ⌝ }
     ensures { λ r. ⌜ Parted (now (lus .entry)) (now (hus .entry)) (now (lvs .entry)) (now (hvs .entry)) i j (j + 8) r ⌝ }
 {
     let mut all = true;
@@ -77,10 +131,10 @@ fn eight_parted(lus: &[i32], hus: &[i32], lvs: &[i32], hvs: &[i32], i: usize, j:
 fn clash_past(
     us: &[i64],
     vs: &[i64],
-    lus: &[i32],
-    hus: &[i32],
-    lvs: &[i32],
-    hvs: &[i32],
+    lus: &[u16],
+    hus: &[u16],
+    lvs: &[u16],
+    hvs: &[u16],
     m: usize,
     i: usize,
     k: usize,
@@ -102,10 +156,10 @@ fn clash_past(
 fn clashes_in(
     us: &[i64],
     vs: &[i64],
-    lus: &[i32],
-    hus: &[i32],
-    lvs: &[i32],
-    hvs: &[i32],
+    lus: &[u16],
+    hus: &[u16],
+    lvs: &[u16],
+    hvs: &[u16],
     m: usize,
     i: usize,
     j: usize,
@@ -130,10 +184,10 @@ fn clashes_in(
 fn clashes_eight(
     us: &[i64],
     vs: &[i64],
-    lus: &[i32],
-    hus: &[i32],
-    lvs: &[i32],
-    hvs: &[i32],
+    lus: &[u16],
+    hus: &[u16],
+    lvs: &[u16],
+    hvs: &[u16],
     m: usize,
     i: usize,
     j: usize,
@@ -158,14 +212,72 @@ fn eight_on(j: usize, m: usize) -> usize
     if j + 8 < m { j + 8 } else { m }
 }
 
+// The first block from b on, of those of m edges, that is among eight which are not all parted from edge i; or one past the last.
+fn far(lus: &[u16], hus: &[u16], lvs: &[u16], hvs: &[u16], m: usize, i: usize, b: usize) -> usize
+    requires { ⌜ (Covered m (now lus) (now hus)) × (Covered m (now lvs) (now hvs)) ⌝ }
+    requires { ⌜ (m ≤ 128) × (i < m) × (b ≤ 16) ⌝ }
+    ensures { λ r. ⌜ (b ≤ r) × (r ≤ 24) × Parted (now (lus .entry)) (now (hus .entry)) (now (lvs .entry)) (now (hvs .entry)) i (144 + b) (144 + r) true ⌝ }
+{
+    let mut c = b;
+    while 8 * c < m {
+        if !eight_parted(lus, hus, lvs, hvs, i, 144 + c) {
+            return c;
+        }
+        c += 8;
+    }
+    c
+}
+
+// The first block from b on that is not parted from edge i, or one past the last.
+fn near(lus: &[u16], hus: &[u16], lvs: &[u16], hvs: &[u16], m: usize, i: usize, b: usize) -> usize
+    requires { ⌜ (Covered m (now lus) (now hus)) × (Covered m (now lvs) (now hvs)) ⌝ }
+    requires { ⌜ (m ≤ 128) × (i < m) × (b ≤ 16) ⌝ }
+    ensures { λ r. ⌜ (b ≤ r) × (r ≤ 24) × Parted (now (lus .entry)) (now (hus .entry)) (now (lvs .entry)) (now (hvs .entry)) i (144 + b) (144 + r) true ⌝ }
+{
+    let mut c = far(lus, hus, lvs, hvs, m, i, b);
+    while 8 * c < m {
+        let k = 144 + c;
+        let beside = parted(lus, hus, i, k);
+        let above = parted(lvs, hvs, i, k);
+        if !(beside | above) {
+            return c;
+        }
+        c += 1;
+    }
+    c
+}
+
+// The first of m edges from e on that is in a block not parted from edge i, or m.
+fn next_near(
+    lus: &[u16],
+    hus: &[u16],
+    lvs: &[u16],
+    hvs: &[u16],
+    m: usize,
+    i: usize,
+    e: usize,
+) -> usize
+    requires { ⌜ (Covered m (now lus) (now hus)) × (Covered m (now lvs) (now hvs)) ⌝ }
+    requires { ⌜ (m ≤ 128) × (i < m) × (e ≤ m) ⌝ }
+    ensures { λ r. ⌜ (e ≤ r) × (r ≤ m) × Parted (now (lus .entry)) (now (hus .entry)) (now (lvs .entry)) (now (hvs .entry)) i e r true ⌝ }
+{
+    let b = e / 8;
+    let c = near(lus, hus, lvs, hvs, m, i, b);
+    let j = 8 * c;
+    if j < e {
+        return e;
+    }
+    if j < m { j } else { m }
+}
+
 // Whether edge i of m, not the first, and a later one past its neighbour do.
 fn clashes_past(
     us: &[i64],
     vs: &[i64],
-    lus: &[i32],
-    hus: &[i32],
-    lvs: &[i32],
-    hvs: &[i32],
+    lus: &[u16],
+    hus: &[u16],
+    lvs: &[u16],
+    hvs: &[u16],
     m: usize,
     i: usize,
 ) -> bool
@@ -180,7 +292,7 @@ fn clashes_past(
         if clashes_eight(us, vs, lus, hus, lvs, hvs, m, i, j, e) {
             return true;
         }
-        j = e;
+        j = next_near(lus, hus, lvs, hvs, m, i, e);
     }
     false
 }
@@ -199,10 +311,10 @@ fn clash_next(us: &[i64], vs: &[i64], m: usize, i: usize) -> bool
 fn clashes_boxed(
     us: &[i64],
     vs: &[i64],
-    lus: &[i32],
-    hus: &[i32],
-    lvs: &[i32],
-    hvs: &[i32],
+    lus: &[u16],
+    hus: &[u16],
+    lvs: &[u16],
+    hvs: &[u16],
     m: usize,
     i: usize,
 ) -> bool
@@ -225,10 +337,10 @@ fn clashes_boxed(
 fn crossings_boxed(
     us: &[i64],
     vs: &[i64],
-    lus: &[i32],
-    hus: &[i32],
-    lvs: &[i32],
-    hvs: &[i32],
+    lus: &[u16],
+    hus: &[u16],
+    lvs: &[u16],
+    hvs: &[u16],
     m: usize,
 ) -> bool
     requires { ⌜ Spread (now us) (now vs) m ⌝ }
@@ -255,13 +367,11 @@ pub fn crossings_many(us: &[i64], vs: &[i64], m: usize) -> bool
     requires { ⌜ (1 ≤ m) × (m ≤ 128) ⌝ }
     ensures { λ r. ⌜ r ≡ isCrossed (tab (edgeAt (now (us .entry)) (now (vs .entry))) m) ⌝ }
 {
-    let mut lus: [i32; 136] = [0; 136];
-    let mut hus: [i32; 136] = [0; 136];
-    let mut lvs: [i32; 136] = [0; 136];
-    let mut hvs: [i32; 136] = [0; 136];
-    endings(us, m, false, &mut lus);
-    endings(us, m, true, &mut hus);
-    endings(vs, m, false, &mut lvs);
-    endings(vs, m, true, &mut hvs);
+    let mut lus: [u16; 176] = [65535; 176];
+    let mut hus: [u16; 176] = [0; 176];
+    let mut lvs: [u16; 176] = [65535; 176];
+    let mut hvs: [u16; 176] = [0; 176];
+    sides(us, m, &mut lus, &mut hus);
+    sides(vs, m, &mut lvs, &mut hvs);
     crossings_boxed(us, vs, &lus, &hus, &lvs, &hvs, m)
 }

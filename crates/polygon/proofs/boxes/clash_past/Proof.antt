@@ -18,7 +18,7 @@ parted-requires-2 c κs = search needs
 
 returns : tie.Need-returns
 returns c =
-    let s = c .before .before .before in
+    let s = c .before .before .before .before .before .before .before in
     let h = s .pre .1 .1 in
     sym (parted-edges (s .pre .1 .0) (s .args .i) (h .0) (s .args .k) (h .1) (h .2) (sym (ap₂ _||_ (c .before .before .parted .ensures) (c .before .parted2 .ensures)) ∙ c .if1 .taken))
 
@@ -30,13 +30,13 @@ edge-at-requires-2 c κs = search needs
 
 share-requires : tie.Need-share-requires
 share-requires c κs =
-    let s = c .before .before .before .before .before in
+    let s = c .before .before .before .before .before .before .before .before .before in
     let h = s .pre .1 .1 in
     (ends-same (c .before .edge-at .ensures) (ends-at (s .pre .0) _ (omega arith)), ends-same (c .edge-at2 .ensures) (ends-at (s .pre .0) _ (omega arith)))
 
 returns-2 : tie.Need-returns-2
 returns-2 c =
-    let s = c .before .before .before .before .before .before in
+    let s = c .before .before .before .before .before .before .before .before .before .before in
     let h = s .pre .1 .1 in
     c .share .ensures ∙ ap₂ share (c .before .before .edge-at .ensures) (c .before .edge-at2 .ensures)
     ∙ clash-other (s .args .m) (s .args .i) (s .args .k) _ _ (omega arith) (λ z. omega arith) (first-and (s .args .i) (s .args .k + 1) (s .args .m) (h .0))

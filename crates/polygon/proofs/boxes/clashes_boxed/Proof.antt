@@ -16,7 +16,7 @@ add-next c = search needs
 
 returns : tie.Need-returns
 returns c =
-    let a = c .before .args in
+    let a = c .before .before .before .before .before .args in
     sym (row-end (a .us .now) (a .vs .now) (a .m) _ (a .i + 1) (c .if1 .taken))
 
 clash-next-requires : tie.Need-clash-next-requires
@@ -24,17 +24,17 @@ clash-next-requires c κs = search needs
 
 returns-2 : tie.Need-returns-2
 returns-2 c =
-    let a = c .before .before .before .args in
+    let a = c .before .before .before .before .before .before .before .args in
     sym (row-here (a .us .now) (a .vs .now) (a .m) _ (a .i + 1) (omega arith) (sym (c .before .clash-next .ensures) ∙ c .if2 .taken))
 
 clashes-past-requires : tie.Need-clashes-past-requires
 clashes-past-requires c κs =
-    let s = c .before .before .before in
+    let s = c .before .before .before .before .before .before .before in
     (s .pre .0, (s .pre .1 .0, (omega arith, omega arith)))
 
 returns-3 : tie.Need-returns-3
 returns-3 c =
-    let a = c .before .before .before .before .args in
+    let a = c .before .before .before .before .before .before .before .before .args in
     let z : a .i + 2 ≡ a .i + 1 + 1 = omega arith in
     c .clashes-past .ensures
     ∙ ap (λ (n : ℕ). any (forbidden (a .m) (a .i, edgeAt (a .us .now) (a .vs .now) (a .i))) (drop n (edges (a .us .now) (a .vs .now) (a .m)))) z

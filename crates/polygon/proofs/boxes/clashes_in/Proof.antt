@@ -22,12 +22,12 @@ loop-holds c = (omega arith, omega arith, refl)
 
 clash-past-requires : tie.Need-clash-past-requires Inv-loop μ-loop
 clash-past-requires c κs =
-    let s = c .before .before in
+    let s = c .before .before .before .before .before .before in
     (s .pre .0, (s .pre .1 .0, (omega arith, omega arith, omega arith)))
 
 returns : tie.Need-returns Inv-loop μ-loop
 returns c =
-    let a = c .before .before .before .before .args in
+    let a = c .before .before .before .before .before .before .before .before .args in
     c .before .before .before .loop .inv .2 ∙ row-here (a .us .now) (a .vs .now) (a .m) _ (c .before .before .before .loop .n) (omega arith) (sym (c .before .clash-past .ensures) ∙ c .if1 .taken)
 
 add-n : tie.Need-add-n Inv-loop μ-loop
@@ -38,12 +38,12 @@ loop-less c = search needs
 
 loop-again : tie.Need-loop-again Inv-loop μ-loop
 loop-again c =
-    let a = c .before .before .before .before .args in
+    let a = c .before .before .before .before .before .before .before .before .args in
     (omega arith, omega arith, c .before .before .before .loop .inv .2 ∙ sym (row-next (a .us .now) (a .vs .now) (a .m) _ (c .before .before .before .loop .n) (omega arith) (sym (c .before .clash-past .ensures) ∙ c .if1 .left)))
 
 returns-2 : tie.Need-returns-2 Inv-loop μ-loop
 returns-2 c =
-    let a = c .before .before .args in
+    let a = c .before .before .before .before .before .before .args in
     let z : c .before .loop .n ≡ a .e = omega arith in
     c .before .loop .inv .2 ∙ ap (λ (n : ℕ). any (forbidden (a .m) (a .i, edgeAt (a .us .now) (a .vs .now) (a .i))) (drop n (edges (a .us .now) (a .vs .now) (a .m)))) z
 

@@ -7,7 +7,7 @@ use Rattle.whole.specs.Lists.{any}
 use Rattle.polygon.specs.Leaves.{edgeAt}
 use Rattle.polygon.specs.Ring.{forbidden}
 use Rattle.polygon.proofs.Pairs.{edges, row-end}
-use Rattle.polygon.proofs.Nearness.{or-found, or-next}
+use Rattle.polygon.proofs.Nearness.{parted-row, or-found, or-next}
 use Rattle.polygon.proofs.boxes.clashes_past.Statement.{statement}
 use Rattle.polygon.proofs.boxes.clashes_past.Tie as tie
 
@@ -18,29 +18,44 @@ abbrev μ-loop : tie.MeasureT-loop
 μ-loop us vs lus hus lvs hvs m i j₀ j = m - j
 
 add-j : tie.Need-add-j Inv-loop μ-loop
-add-j c = omega (arith, c .pre .1 .0 .few)
+add-j c = omega (arith, c .before .before .before .before .pre .1 .0 .few)
 
 loop-holds : tie.Need-loop-holds Inv-loop μ-loop
 loop-holds c = (omega arith, omega arith, refl)
 
 eight-on-requires : tie.Need-eight-on-requires Inv-loop μ-loop
-eight-on-requires c κs = (c .loop-test .taken, c .before .before .pre .1 .0 .few)
+eight-on-requires c κs = (c .loop-test .taken, c .before .before .before .before .before .before .pre .1 .0 .few)
 
 clashes-eight-requires : tie.Need-clashes-eight-requires Inv-loop μ-loop
-clashes-eight-requires c κs = (c .before .before .before .pre .0, (c .before .before .before .pre .1 .0, (omega arith, omega arith, omega arith, omega arith, omega arith, omega arith)))
+clashes-eight-requires c κs =
+    let s = c .before .before .before .before .before .before .before .pre in
+    (s .0, (s .1 .0, (omega arith, omega arith, omega arith, omega arith, omega arith, omega arith)))
 
 returns : tie.Need-returns Inv-loop μ-loop
 returns c = sym (sym (c .before .before .before .before .loop .inv .2) ∙ or-found _ _ _ (c .before .clashes-eight .ensures) (c .if1 .taken))
+
+next-near-requires : tie.Need-next-near-requires Inv-loop μ-loop
+next-near-requires c κs =
+    let s = c .before .before .before .before .before .before .before .before .before .pre in
+    ((s .1 .0 .on-u .blocks, s .1 .0 .on-v .blocks), (s .1 .0 .few, omega arith, omega arith))
 
 loop-less : tie.Need-loop-less Inv-loop μ-loop
 loop-less c = omega arith
 
 loop-again : tie.Need-loop-again Inv-loop μ-loop
-loop-again c = (omega arith, omega arith, or-next _ _ _ (c .before .clashes-eight .ensures) (c .if1 .left) ∙ c .before .before .before .before .loop .inv .2)
+loop-again c =
+    let l = c .before .before .before .before .before in
+    let s = l .before .before .before .before .before in
+    let n = c .next-near .ensures in (
+      omega arith,
+      n .1,
+      sym (parted-row (s .pre .1 .0) (s .args .i) (s .pre .1 .1 .0) (n .2) refl (omega arith) (c .next-near .result) (n .0) (n .1) (omega arith))
+          ∙ or-next _ _ _ (c .before .before .clashes-eight .ensures) (c .before .if1 .left) ∙ l .loop .inv .2,
+    )
 
 returns-2 : tie.Need-returns-2 Inv-loop μ-loop
 returns-2 c =
-    let a = c .before .before .args in
+    let a = c .before .before .before .before .before .before .args in
     sym (sym (c .before .loop .inv .2) ∙ row-end (a .us .now) (a .vs .now) (a .m) _ (c .before .loop .j) (omega arith))
 
 pub clashes-past-spec : {M : Type 1} → statement M
@@ -54,6 +69,7 @@ clashes-past-spec =
     eight-on-requires
     clashes-eight-requires
     returns
+    next-near-requires
     loop-less
     loop-again
     returns-2)

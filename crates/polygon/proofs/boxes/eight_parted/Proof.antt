@@ -4,7 +4,7 @@ use mathlib.Core.Path.{_≡_, subst}
 use Prim.Native.Nat.{ℕ, _+_, _-_, _≤_}
 use borrow.Author.Needs.{needs}
 use Rattle.polygon.specs.Boxes.{Parted}
-use Rattle.polygon.proofs.Nearness.{parted-none, parted-more}
+use Rattle.polygon.proofs.Nearness.{parted-none, parted-one, parted-join, parted-until}
 use Rattle.polygon.proofs.boxes.eight_parted.Statement.{statement}
 use Rattle.polygon.proofs.boxes.eight_parted.Tie as tie
 
@@ -15,7 +15,7 @@ abbrev μ-loop : tie.MeasureT-loop
 μ-loop lus hus lvs hvs i j all₀ n₀ all n = 8 - n
 
 loop-holds : tie.Need-loop-holds Inv-loop μ-loop
-loop-holds c = (omega arith, parted-none _ _ _ _ _ _ _)
+loop-holds c = (omega arith, parted-none (omega arith))
 
 add-k : tie.Need-add-k Inv-loop μ-loop
 add-k c = search needs
@@ -33,11 +33,15 @@ loop-less : tie.Need-loop-less Inv-loop μ-loop
 loop-less c = search needs
 
 loop-again : tie.Need-loop-again Inv-loop μ-loop
-loop-again c = (omega arith, parted-more (c .before .before .before .loop .n) (c .before .before .before .loop .inv .1) _ _ (c .before .parted .ensures) (c .parted2 .ensures))
+loop-again c =
+    let l = c .before .before .before in
+    let j = l .before .before .before .before .before .args .j in
+    let z : j + l .loop .n + 1 ≡ j + (l .loop .n + 1) = omega arith in
+    (omega arith, parted-until z (parted-join (l .loop .inv .1) (parted-one (j + l .loop .n) _ _ (c .before .parted .ensures) (c .parted2 .ensures))))
 
 returns : tie.Need-returns Inv-loop μ-loop
 returns c =
-    let a = c .before .before .args in
+    let a = c .before .before .before .before .before .before .args in
     let z : c .before .loop .n ≡ 8 = omega arith in
     subst (λ (n : ℕ). Parted (a .lus .now) (a .hus .now) (a .lvs .now) (a .hvs .now) (a .i) (a .j) (a .j + n) (c .before .loop .all)) z (c .before .loop .inv .1)
 

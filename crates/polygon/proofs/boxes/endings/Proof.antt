@@ -1,65 +1,52 @@
 -- `polygon::boxes::endings` meets its contract. The loop: the first i ends are there.
 use native.Mathlib.Omega.{arith}
-use mathlib.Core.Path.{_∙_, ap₂}
-use Prim.Native.Nat.{_+_, _-_}
-use mir.Syntax.{w64, w32}
-use lib.ListN.{length}
+use Prim.Native.Nat.{_-_}
 use borrow.Author.Needs.{needs}
-use Rattle.whole.specs.Size.{back-small, small-back, call-is}
-use Rattle.polygon.specs.Boxes.{ending}
-use Rattle.polygon.proofs.Nearness.{Ending, ending-start, ending-more, ending-end}
+use Rattle.polygon.proofs.Covering.{Ending, ending-start, ending-more, ending-end}
 use Rattle.polygon.proofs.boxes.endings.Statement.{statement}
 use Rattle.polygon.proofs.boxes.endings.Tie as tie
 
 abbrev Inv-loop : tie.InvT-loop
-Inv-loop us m high room₀ i₀ room i = Ending us high m (length room₀) room i
+Inv-loop ps high room₀ i₀ room i = Ending ps high room i
 
 abbrev μ-loop : tie.MeasureT-loop
-μ-loop us m high room₀ i₀ room i = m - i
+μ-loop ps high room₀ i₀ room i = 144 - i
 
 loop-holds : tie.Need-loop-holds Inv-loop μ-loop
-loop-holds c = ending-start (c .args .us .now) (c .args .high) (c .args .m) _
+loop-holds c = ending-start _ _ _ (c .before .before .pre .1)
 
 add-next : tie.Need-add-next Inv-loop μ-loop
 add-next c = search needs
 
-mul-p : tie.Need-mul-p Inv-loop μ-loop
-mul-p c = search needs
+mul-ending : tie.Need-mul-ending Inv-loop μ-loop
+mul-ending c = search needs
 
-shared-slice-copy-out-p : tie.Need-shared-slice-copy-out-p Inv-loop μ-loop
-shared-slice-copy-out-p c = omega (arith, c .before .before .pre .0 .room, c .loop-test .taken)
+shared-slice-read-ending : tie.Need-shared-slice-read-ending Inv-loop μ-loop
+shared-slice-read-ending c = search needs
 
-mul-q : tie.Need-mul-q Inv-loop μ-loop
-mul-q c = search needs
+mul-ending-2 : tie.Need-mul-ending-2 Inv-loop μ-loop
+mul-ending-2 c = search needs
 
-shared-slice-copy-out-q : tie.Need-shared-slice-copy-out-q Inv-loop μ-loop
-shared-slice-copy-out-q c = omega (arith, c .before .before .before .pre .0 .room, c .before .loop-test .taken)
+shared-slice-read-ending-2 : tie.Need-shared-slice-read-ending-2 Inv-loop μ-loop
+shared-slice-read-ending-2 c = search needs
 
 ending-requires : tie.Need-ending-requires Inv-loop μ-loop
-ending-requires c κs =
-    let s = c .before .before .before .before in
-    let i = c .before .before .before .loop .i in
-    (back-small w64 tt (s .pre .0 .close i (omega (arith, c .before .before .loop-test .taken))), back-small w64 tt (s .pre .0 .close (i + 1) (omega (arith, c .before .before .loop-test .taken))))
+ending-requires c κs = search needs
 
-mul-x : tie.Need-mul-x Inv-loop μ-loop
-mul-x c = search needs
+mul-room : tie.Need-mul-room Inv-loop μ-loop
+mul-room c = search needs
 
-slice-set-from-x : tie.Need-slice-set-from-x Inv-loop μ-loop
-slice-set-from-x c = omega (arith, c .before .before .before .before .loop .inv .all, c .before .before .before .before .before .pre .1, c .before .before .before .loop-test .taken)
+slice-write-room : tie.Need-slice-write-room Inv-loop μ-loop
+slice-write-room c = omega (arith, c .before .before .before .before .loop .inv .all)
 
 loop-less : tie.Need-loop-less Inv-loop μ-loop
 loop-less c = search needs
 
 loop-again : tie.Need-loop-again Inv-loop μ-loop
-loop-again c =
-    let s = c .before .before .before .before .before in
-    let i = c .before .before .before .before .loop .i in
-    let l = c .before .before .before .loop-test .taken in
-    ending-more (c .before .before .before .before .loop .inv) l (omega (arith, c .before .before .before .before .loop .inv .all, s .pre .1)) _
-    (call-is w32 (c .ending .ok) (c .ending .ensures ∙ ap₂ (ending (s .args .high)) (small-back w64 tt (s .pre .0 .close i (omega arith))) (small-back w64 tt (s .pre .0 .close (i + 1) (omega arith)))))
+loop-again c = ending-more (c .before .before .before .before .loop .inv) (c .before .before .before .loop-test .taken) _ (c .ending .ensures)
 
 same-length : tie.Need-same-length Inv-loop μ-loop
-same-length c = c .before .loop .inv .all
+same-length c = let a = c .before .before .before .before .pre .1 in omega (arith, c .before .loop .inv .all)
 
 returns : tie.Need-returns Inv-loop μ-loop
 returns c = ending-end (c .before .loop .inv) (c .loop-test .left)
@@ -72,13 +59,13 @@ endings-spec =
     μ-loop
     loop-holds
     add-next
-    mul-p
-    shared-slice-copy-out-p
-    mul-q
-    shared-slice-copy-out-q
+    mul-ending
+    shared-slice-read-ending
+    mul-ending-2
+    shared-slice-read-ending-2
     ending-requires
-    mul-x
-    slice-set-from-x
+    mul-room
+    slice-write-room
     loop-less
     loop-again
     same-length
