@@ -171,6 +171,10 @@ module _ (R : ℕ → ℕ → Type 0) (m₀ m m₁ : List ℕ) (r r₁ : ℕ) (f
       go (yes z) = omega (arith, a .fewer)
       go (no z) = omega (arith, a .more z, a .flag)
 
+-- a round after which another may come
+pub flood-open : (R : ℕ → ℕ → Type 0) (m₀ m : List ℕ) (r : ℕ) → Flooding R m₀ m r → Flooding R m₀ m 1
+flood-open R m₀ m r f = record { marks = f .marks; grows = f .grows; sound = f .sound; closed = λ z. absurd (suc-ne-zero 0 z) }
+
 module _ (R : ℕ → ℕ → Type 0) (n : ℕ) (m₀ m : List ℕ) (r : ℕ) (f : Flooding R m₀ m r) where
   pub spread-still : r ≡ 0 → Spread R n m₀ m
   spread-still z = let g = flooded R m₀ m r f z in record { marks = g .marks; sound = g .sound; whole = λ p h. g .whole p }

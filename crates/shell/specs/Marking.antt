@@ -1,5 +1,5 @@
 -- What the single steps of the code leave: runs of an edge's words, and marks that spread across pairs of words.
-use Prim.Native.Nat.{ℕ, zero, suc, _+_, _%_, _≤_, _<_}
+use Prim.Native.Nat.{ℕ, zero, suc, _+_, _/_, _%_, _≤_, _<_}
 use mathlib.Core.Path.{_≡_}
 use mathlib.Core.Logic.{_⊎_}
 use mathlib.Core.List.{List, [], _∷_}
@@ -101,6 +101,61 @@ pub record Swept (R : ℕ → ℕ → Type 0) (m₀ m : List ℕ) (r : ℕ) : Ty
   pub flag : r ≤ 1
   pub fewer : zeros m ≤ zeros m₀
   pub more : (r ≡ 0 → ⊥) → zeros m < zeros m₀
+
+-- where the other word of the i-th of n words stands: pairs begin at even places, and the last word may have none
+pub record Mate (n i r : ℕ) : Type 0 where
+  pub within : r < n
+  pub up : i % 2 ≡ 0 → i + 1 < n → r ≡ i + 1
+  pub down : i % 2 ≡ 1 → r + 1 ≡ i
+  pub none : i % 2 ≡ 0 → n ≤ i + 1 → r ≡ i
+
+-- 1,024 nodes, each below 1,024
+pub record Nodes (t : List ℕ) : Type 0 where
+  pub size : length t ≡ 1024
+  pub small : (p : ℕ) → getD t p 0 < 1024
+
+pub record Selves (t : List ℕ) : Type 0 where
+  pub size : length t ≡ 1024
+  pub same : (p : ℕ) → p < 1024 → getD t p 0 ≡ p
+
+-- q stands across from p in one of two tables
+abbrev pub Links : List ℕ → List ℕ → ℕ → ℕ → Type 0
+Links out inn p q = (getD out p 0 ≡ q) ⊎ (getD inn p 0 ≡ q)
+
+-- words that g does not tell apart are one word, and stand in one pair
+pub record Lone (g : ℕ → ℕ) (l : List ℕ) : Type 0 where
+  pub same : (i j : ℕ) → i < length l → j < length l → g (getD l i 0) ≡ g (getD l j 0) → (getD l i 0 ≡ getD l j 0) × (i / 2 ≡ j / 2)
+
+-- the tables have what the pairs join, where each corner has one pair of its own step and one of the step before
+pub record Crossed (l out inn : List ℕ) : Type 0 where
+  pub outs : Nodes out
+  pub inns : Nodes inn
+  pub sound : (p q : ℕ) → p < 1024 → Links out inn p q → (p ≡ q) ⊎ Joins 1 2 l p q
+  pub whole : Lone stepOf l → Lone nextOf l → (p q : ℕ) → Joins 1 2 l p q → Links out inn p q
+
+-- r is x or y, and the other of them where one is p
+pub record Onward (x y p r : ℕ) : Type 0 where
+  pub either : (x ≡ r) ⊎ (y ≡ r)
+  pub other : (x ≡ p) ⊎ (y ≡ p) → (q : ℕ) → (x ≡ q) ⊎ (y ≡ q) → (q ≡ p) ⊎ (q ≡ r)
+
+-- L goes both ways between nodes
+abbrev pub Even : (ℕ → ℕ → Type 0) → Type 0
+Even L = (p q : ℕ) → p < 1024 → L p q → L q p
+
+-- marks along steps L that begin with one to `to`: where L goes both ways it leads out of no new mark
+pub record Walked (L : ℕ → ℕ → Type 0) (to : ℕ) (m₀ m : List ℕ) : Type 0 where
+  pub marks : Marks m
+  pub grows : (p : ℕ) → Marked m₀ p → Marked m p
+  pub sound : (p : ℕ) → Marked m p → Reach (Marked m₀) L p
+  pub begun : Marked m to
+  pub closed : Even L → (p q : ℕ) → Marked m p → L p q → Marked m q ⊎ Marked m₀ p
+
+-- the same of all marks
+pub record Traced (L : ℕ → ℕ → Type 0) (m₀ m : List ℕ) : Type 0 where
+  pub marks : Marks m
+  pub grows : (p : ℕ) → Marked m₀ p → Marked m p
+  pub sound : (p : ℕ) → Marked m p → Reach (Marked m₀) L p
+  pub closed : Even L → (p q : ℕ) → Marked m p → L p q → Marked m q
 
 -- the marks are exactly what the marks of m₀ reach
 pub record Flooded (R : ℕ → ℕ → Type 0) (m₀ m : List ℕ) : Type 0 where

@@ -1,10 +1,10 @@
 // Checks 0B and 0C: what the marks reach across the edges.
 use super::edges;
 ghost use mathlib.Core.Path.{_≡_};
-ghost use Prim.Native.Nat.{_<_, _≤_, max};
+ghost use Prim.Native.Nat.{_+_, _<_, _≤_, max};
 ghost use lib.ListN.{length};
-ghost use Rattle.shell.specs.Table.{polyOf};
-ghost use Rattle.shell.specs.Marking.{LeastBelow, nodeOf, Marks, Linked, Joined, Joins, Swept, Flooded, Spread, Blank, LowestBare, LowestCut, Pointed, Seeds, Cut, Unlinks};
+ghost use Rattle.shell.specs.Table.{polyOf, stepOf, nextOf, dirOf};
+ghost use Rattle.shell.specs.Marking.{LeastBelow, nodeOf, Marks, Linked, Joined, Joins, Swept, Flooded, Spread, Blank, LowestBare, LowestCut, Pointed, Seeds, Cut, Unlinks, Marked, Mate, Selves, Nodes, Links, Lone, Crossed, Onward, Walked, Traced};
 
 // One pass over the pairs of words: where one node of a pair is marked and the other not, both are. 1 where some were.
 fn sweep(words: &[u64], which: u8, marks: &mut [u8; 1024]) -> usize
@@ -63,17 +63,127 @@ fn sweep_ends(words: &[u64], marks: &mut [u8; 1024]) -> usize
     changed
 }
 
-// Marks whatever corner the marks reach across the pairs. Each sweep takes the marks at least one step further, so at document 01's
-// bounds fewer than 100,000 ends are looked at (no corner is farther than 128 steps around its point where there are 384 edges with
-// two ends each).
+// The place of the other word of a pair; its own where the last word has none.
+fn mate(n: usize, i: usize) -> usize
+    requires { ⌜ i < n ⌝ }
+    ensures { λ r. ⌜ Mate n i r ⌝ }
+{
+    if i % 2 == 1 {
+        return i - 1;
+    }
+    if n - i == 1 {
+        return i;
+    }
+    i + 1
+}
+
+// Each corner across from itself.
+fn selves(t: &mut [u16; 1024])
+    requires { ⌜ length (now t) ≡ 1024 ⌝ }
+    ensures { λ r. ⌜ Selves (now (t .exit)) ⌝ }
+{
+    let mut i = 0;
+    while i < 1024 {
+        t[i] = i as u16;
+        i += 1;
+    }
+}
+
+// Writes down, for the corner where each word's step starts and for the one where it ends, the corner across the pair.
+fn cross(words: &[u64], out: &mut [u16; 1024], inn: &mut [u16; 1024])
+    requires { ⌜ Selves (now out) × Selves (now inn) ⌝ }
+    ensures { λ r. ⌜ Crossed (now (words .entry)) (now (out .exit)) (now (inn .exit)) ⌝ }
+{
+    let n = words.len();
+    let mut i = 0;
+    while i < n {
+        let v = words[i];
+        let w = words[mate(n, i)];
+        let side = side_of(v);
+        out[edges::step_of(v)] = edges::node_of(w, side) as u16;
+        inn[next_of(v)] = edges::node_of(w, 3 - side) as u16;
+        i += 1;
+    }
+}
+
+// Which of its edge's ends a word's step starts at: 1 the smaller, 2 the larger.
+fn side_of(w: u64) -> u8
+    ensures { λ r. ⌜ (r ≡ 1 + dirOf w) × (r ≤ 2) ⌝ }
+{
+    if w % 2 == 0 { 1 } else { 2 }
+}
+
+fn next_of(w: u64) -> usize
+    ensures { λ r. ⌜ (r ≡ nextOf w) × (r < 1024) ⌝ }
+{
+    (w / 2 % 1024) as usize
+}
+
+// Marks corner after corner, from one to the next that it is not come from, up to one that has a mark. Each turn takes a corner that had none.
+fn walk(out: &[u16; 1024], inn: &[u16; 1024], marks: &mut [u8; 1024], from: usize, to: usize)
+    requires { ⌜ Nodes (now out) × Nodes (now inn) × Marks (now marks) × Marked (now marks) from × Links (now out) (now inn) from to × (to < 1024) ⌝ }
+    ensures { λ r. ⌜ Walked (Links (now (out .entry)) (now (inn .entry))) to (now (marks .entry)) (now (marks .exit)) ⌝ }
+{
+    let mut p = from;
+    let mut c = to;
+    while marks[c] == 0 {
+        marks[c] = 1;
+        let n = onward(edges::wide(out[c]), edges::wide(inn[c]), p);
+        p = c;
+        c = n;
+    }
+}
+
+// Of two numbers the one that is not p, where the other is.
+fn onward(x: usize, y: usize, p: usize) -> usize
+    ensures { λ r. ⌜ Onward x y p r ⌝ }
+{
+    if x == p { y } else { x }
+}
+
+// Walks both ways from each marked corner.
+fn walks(out: &[u16; 1024], inn: &[u16; 1024], marks: &mut [u8; 1024])
+    requires { ⌜ Nodes (now out) × Nodes (now inn) × Marks (now marks) ⌝ }
+    ensures { λ r. ⌜ Traced (Links (now (out .entry)) (now (inn .entry))) (now (marks .entry)) (now (marks .exit)) ⌝ }
+{
+    let mut e = 0;
+    while e < 1024 {
+        if marks[e] == 1 {
+            walk(out, inn, marks, e, edges::wide(out[e]));
+            walk(out, inn, marks, e, edges::wide(inn[e]));
+        }
+        e += 1;
+    }
+}
+
+// Marks whatever corner the marks reach across the pairs, where each corner has one pair of its own step and one of the step before.
+// Twice 1,024 walks begin at most, and each of their turns marks a corner that had no mark.
+fn trace(words: &[u64], marks: &mut [u8; 1024])
+    requires { ⌜ Marks (now marks) ⌝ }
+    ensures { λ r. ⌜ Marks (now (marks .exit)) × (Lone stepOf (now (words .entry)) → Lone nextOf (now (words .entry)) → Flooded (Joins 1 2 (now (words .entry))) (now (marks .entry)) (now (marks .exit))) ⌝ }
+{
+    let mut out = [0u16; 1024];
+    let mut inn = [0u16; 1024];
+    selves(&mut out);
+    selves(&mut inn);
+    cross(words, &mut out, &mut inn);
+    walks(&out, &inn, marks);
+}
+
+// Marks whatever corner the marks reach across the pairs: four sweeps at most, which end most buildings, and walks for the rest.
 fn flood(words: &[u64], marks: &mut [u8; 1024])
     requires { ⌜ Marks (now marks) ⌝ }
-    ensures { λ r. ⌜ Flooded (Joins 1 2 (now (words .entry))) (now (marks .entry)) (now (marks .exit)) ⌝ }
+    ensures { λ r. ⌜ Marks (now (marks .exit)) × (Lone stepOf (now (words .entry)) → Lone nextOf (now (words .entry)) → Flooded (Joins 1 2 (now (words .entry))) (now (marks .entry)) (now (marks .exit))) ⌝ }
 {
-    let mut changed: usize = 1;
-    while changed != 0 {
-        changed = sweep_ends(words, marks);
+    let mut i: usize = 0;
+    while i < 4 {
+        let changed = sweep_ends(words, marks);
+        if changed == 0 {
+            return;
+        }
+        i += 1;
     }
+    trace(words, marks);
 }
 
 // Marks whatever of the first n polygons the marks reach across the pairs: until a sweep marks none, or all n are marked. At document
@@ -165,7 +275,7 @@ fn lowest_cut(words: &[u64], entries: &[u16; 1024], marks: &[u8; 1024]) -> usize
 // Check 0C: the lowest point with a corner that its first corner does not reach across pairs that end at it, or 65536.
 pub fn unlinked(words: &[u64], entries: &[u16; 1024]) -> usize
     requires { ⌜ Pointed (now entries) (now words) ⌝ }
-    ensures { λ r. ⌜ Unlinks (now (entries .entry)) (now (words .entry)) r ⌝ }
+    ensures { λ r. ⌜ (Lone stepOf (now (words .entry)) → Lone nextOf (now (words .entry)) → Unlinks (now (entries .entry)) (now (words .entry)) r) ⌝ }
 {
     let mut marks = blank();
     seeds(words, entries, &mut marks);
