@@ -1,6 +1,6 @@
 -- The tables of corners across from corners: what one word writes, and that all words together write what the pairs join.
 use Prim.Native.Nat.{ℕ, zero, suc, _+_, _-_, _/_, _%_, _≤_, _<_}
-use native.Mathlib.Decide.{ℕ-discrete}
+use native.Mathlib.Decide.{ℕ-discrete, decLt}
 use native.Mathlib.Nat.{not-suc-le-zero}
 use native.Mathlib.Omega.{arith}
 use mathlib.Core.Path.{_≡_, refl, sym, ap, subst, _∙_}
@@ -49,10 +49,21 @@ note-none g f l t s = record {
     beyond p ge = List·getD-eq-default t 0 (omega (arith, s .size))
 
     small : (p : ℕ) → getD t p 0 < 1024
-    small p = by-cases (decide p) (λ lt. omega (arith, s .same p lt)) (λ ge. omega (arith, beyond p ge))
-      where
-        decide : (p : ℕ) → Dec (p < 1024)
-        decide p = native.Mathlib.Decide.decLt p 1024
+    small p = by-cases (decLt p 1024) (λ lt. omega (arith, s .same p lt)) (λ ge. omega (arith, beyond p ge))
+
+-- the words of a pair are each other's
+pub mate-up : (n i : ℕ) → i % 2 ≡ 0 → i + 1 < n → Mate n i (i + 1)
+mate-up n i e h = record { within = h; up = λ _ _. refl; down = λ z. absurd (omega arith); none = λ _ z. absurd (omega arith) }
+
+pub mate-down : (n i : ℕ) → i % 2 ≡ 0 → i + 1 < n → Mate n (i + 1) i
+mate-down n i e h = record { within = omega arith; up = λ z. absurd (omega arith); down = λ _. refl; none = λ z. absurd (omega arith) }
+
+-- and a word has one other
+pub mate-one : (n i k k′ : ℕ) → Mate n i k → Mate n i k′ → k ≡ k′
+mate-one n i k k′ a b = by-cases (ℕ-discrete (i % 2) 0) (λ e. by-cases (decLt (i + 1) n) (λ lt. a .up e lt ∙ sym (b .up e lt)) (λ ge. a .none e (omega arith) ∙ sym (b .none e (omega arith)))) (λ d. omega (arith, a .down (odd d), b .down (odd d)))
+  where
+    odd : (i % 2 ≡ 0 → ⊥) → i % 2 ≡ 1
+    odd d = omega arith
 
 -- where two words are one and stand in one pair, so are the others of their pairs
 mates-same : (l : List ℕ) (i j k k′ : ℕ) → j < length l → i < length l → Mate (length l) i k → Mate (length l) j k′ → getD l i 0 ≡ getD l j 0 → i / 2 ≡ j / 2 → getD l k 0 ≡ getD l k′ 0
@@ -65,10 +76,7 @@ mates-same l i j k k′ hj hi a b e d = by-cases (ℕ-discrete k k′) (λ q. ap
     crossed n hi hj a b d ne = go (odd i) (odd j)
       where
         go : (i % 2 ≡ 0) ⊎ (i % 2 ≡ 1) → (j % 2 ≡ 0) ⊎ (j % 2 ≡ 1) → (k ≡ j) × (k′ ≡ i)
-        go (inl p) (inl q) = absurd (ne (same (omega arith)))
-          where
-            same : i ≡ j → k ≡ k′
-            same z = by-cases (native.Mathlib.Decide.decLt (i + 1) n) (λ lt. a .up p lt ∙ (ap (λ (x : ℕ). x + 1) z ∙ sym (b .up q (omega arith)))) (λ ge. a .none p (omega arith) ∙ (z ∙ sym (b .none q (omega arith))))
+        go (inl p) (inl q) = absurd (ne (mate-one n j k k′ (subst (λ (x : ℕ). Mate n x k) (omega arith) a) b))
         go (inr p) (inr q) = absurd (ne (omega (arith, a .down p, b .down q)))
         go (inl p) (inr q) = (omega (arith, a .up p (omega arith)), omega (arith, b .down q))
         go (inr p) (inl q) = (omega (arith, a .down p), omega (arith, b .up q (omega arith)))
@@ -153,8 +161,8 @@ next-node v (inr e) = (pick-else (dirOf v) (stepOf v) (nextOf v) (λ z. omega ar
 
 module _ (l : List ℕ) where
   -- a word and the other of its pair are joined, or one
-  mate-joined : (g : ℕ → ℕ) (i k : ℕ) → i < length l → Mate (length l) i k → (i ≡ k) ⊎ Joined l g (g (getD l i 0)) (g (getD l k 0))
-  mate-joined g i k h m = by-cases (ℕ-discrete (i % 2) 0) (λ e. by-cases (native.Mathlib.Decide.decLt (i + 1) (length l)) (λ lt. inr (record { at = i; even = e; within = lt; ends = inl (refl, ap (λ (x : ℕ). g (getD l x 0)) (sym (m .up e lt))) })) (λ ge. inl (sym (m .none e (omega arith))))) (λ n. inr (odd (m .down (omega arith)) n))
+  pub mate-joined : (g : ℕ → ℕ) (i k : ℕ) → i < length l → Mate (length l) i k → (i ≡ k) ⊎ Joined l g (g (getD l i 0)) (g (getD l k 0))
+  mate-joined g i k h m = by-cases (ℕ-discrete (i % 2) 0) (λ e. by-cases (decLt (i + 1) (length l)) (λ lt. inr (record { at = i; even = e; within = lt; ends = inl (refl, ap (λ (x : ℕ). g (getD l x 0)) (sym (m .up e lt))) })) (λ ge. inl (sym (m .none e (omega arith))))) (λ n. inr (odd (m .down (omega arith)) n))
     where
       odd : k + 1 ≡ i → (i % 2 ≡ 0 → ⊥) → Joined l g (g (getD l i 0)) (g (getD l k 0))
       odd e n = record { at = k; even = omega arith; within = omega arith; ends = inr (ap (λ (x : ℕ). g (getD l x 0)) e, refl) }
@@ -180,18 +188,12 @@ module _ (l : List ℕ) where
           go (inl w) = inl (ap (λ (x : ℕ). getD out x 0) (w .1) ∙ (a .whole f j k (omega arith) lt m ∙ ap (λ (x : ℕ). nodeOf x (getD l k 0)) (sym (w .0))))
           go (inr w) = inr (ap (λ (x : ℕ). getD inn x 0) (w .1) ∙ (b .whole g j k (omega arith) lt m ∙ ap (λ (x : ℕ). nodeOf x (getD l k 0)) (sym (w .0))))
 
-      up : (n i : ℕ) → i % 2 ≡ 0 → i + 1 < n → Mate n i (i + 1)
-      up n i e h = record { within = h; up = λ _ _. refl; down = λ z. absurd (omega arith); none = λ _ z. absurd (omega arith) }
-
-      down : (n i : ℕ) → i % 2 ≡ 0 → i + 1 < n → Mate n (i + 1) i
-      down n i e h = record { within = omega arith; up = λ z. absurd (omega arith); down = λ _. refl; none = λ z. absurd (omega arith) }
-
       joined-links : (h p q : ℕ) → ((v : ℕ) → Side v h) → Joined l (nodeOf h) p q → Links out inn p q
       joined-links h p q s j = go (j .ends)
         where
           go : ((nodeOf h (getD l (j .at) 0) ≡ p) × (nodeOf h (getD l (j .at + 1) 0) ≡ q)) ⊎ ((nodeOf h (getD l (j .at + 1) 0) ≡ p) × (nodeOf h (getD l (j .at) 0) ≡ q)) → Links out inn p q
-          go (inl w) = rw (w .0, w .1) at (across h (j .at) (j .at + 1) (omega (arith, j .within)) (up (length l) (j .at) (j .even) (j .within)) (s (getD l (j .at) 0)))
-          go (inr w) = rw (w .0, w .1) at (across h (j .at + 1) (j .at) (j .within) (down (length l) (j .at) (j .even) (j .within)) (s (getD l (j .at + 1) 0)))
+          go (inl w) = rw (w .0, w .1) at (across h (j .at) (j .at + 1) (omega (arith, j .within)) (mate-up (length l) (j .at) (j .even) (j .within)) (s (getD l (j .at) 0)))
+          go (inr w) = rw (w .0, w .1) at (across h (j .at + 1) (j .at) (j .within) (mate-down (length l) (j .at) (j .even) (j .within)) (s (getD l (j .at + 1) 0)))
 
       whole : (p q : ℕ) → Joins 1 2 l p q → Links out inn p q
       whole p q (inl j) = joined-links 1 p q side-low j

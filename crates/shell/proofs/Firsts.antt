@@ -2,7 +2,7 @@
 use Prim.Native.Nat.{ℕ, _+_, _≤_, _<_}
 use native.Mathlib.Nat.{not-suc-le-zero, le-refl, lt-irrefl}
 use native.Mathlib.Omega.{arith}
-use mathlib.Core.Path.{_≡_, refl, sym, ap, _∙_}
+use mathlib.Core.Path.{_≡_, refl, sym, ap, subst, _∙_}
 use mathlib.Core.Logic.{_⊎_, inl, inr, ⊎-elim, _≢_}
 use mathlib.Core.List.{List}
 use borrow.Author.Count.{below-more}
@@ -10,7 +10,7 @@ use lib.ListN.{length, getD, set, length-set}
 use lib.Seq.{getD-set-same}
 use Rattle.shell.specs.Reach.{start}
 use Rattle.shell.specs.Table.{stepOf, polyOf}
-use Rattle.shell.specs.Marking.{Marks, Marked, Blank, Pointed, Seeds, Cut, LeastBelow, Spread, Joined, LowestBare, LowestCut}
+use Rattle.shell.specs.Marking.{Marks, Marked, Blank, Seeded, Pointed, Seeds, Cut, LeastBelow, Spread, Joined, LowestBare, LowestCut}
 use Rattle.shell.proofs.Sweeps.{at-set, reach-map}
 
 -- what holds after i turns of `seeds`
@@ -158,25 +158,26 @@ module _ (es l m : List ℕ) (best i x v : ℕ) (q : x ≡ stepOf (getD l i 0)) 
   cut-take-at e lt = rw (z, q) (cut-take es l m best i s h (rw q at e) (rw (z, q) at lt))
 
 -- one mark alone
-pub seed-marks : (m : List ℕ) (s : ℕ) → s < 1024 → Blank m → Marks (set m s 1)
-seed-marks m s h b = record {
-  size = simp length-set (b .size);
-  bits = λ p. ⊎-elim (λ (w : (p ≡ s) × (getD (set m s 1) p 0 ≡ 1)). omega (arith, w .1)) (λ (w : (p ≢ s) × (getD (set m s 1) p 0 ≡ getD m p 0)). omega (arith, w .1, b .bare p)) (at-set m s 1 p (omega (arith, b .size)));
+pub seed-first : (m : List ℕ) → Blank m → Seeded (set m 0 1)
+seed-first m b = record {
+  marks = record {
+    size = simp length-set (b .size);
+    bits = λ p. ⊎-elim (λ (w : (p ≡ 0) × Marked (set m 0 1) p). omega (arith, w .1)) (λ (w : (p ≢ 0) × (getD (set m 0 1) p 0 ≡ getD m p 0)). omega (arith, w .1, b .bare p)) (after p);
+  };
+  first = getD-set-same m 0 1 0 (omega (arith, b .size));
+  only = λ p h. ⊎-elim (λ (w : (p ≡ 0) × Marked (set m 0 1) p). w .0) (λ (w : (p ≢ 0) × (getD (set m 0 1) p 0 ≡ getD m p 0)). absurd (bad p h (w .1))) (after p);
 }
+  where
+    after : (p : ℕ) → ((p ≡ 0) × Marked (set m 0 1) p) ⊎ ((p ≢ 0) × (getD (set m 0 1) p 0 ≡ getD m p 0))
+    after p = at-set m 0 1 p (omega (arith, b .size))
 
-module _ (l m m′ : List ℕ) (n r : ℕ) (b : Blank m) (f : Spread (Joined l polyOf) n (set m 0 1) m′) (u : LowestBare m′ n r) where
-  only : (p : ℕ) → Marked (set m 0 1) p → p ≡ 0
-  only p h = ⊎-elim (λ (w : (p ≡ 0) × (getD (set m 0 1) p 0 ≡ 1)). w .0) (λ (w : (p ≢ 0) × (getD (set m 0 1) p 0 ≡ getD m p 0)). absurd (bad (w .1))) (at-set m 0 1 p (omega (arith, b .size)))
-    where
-      bad : getD (set m 0 1) p 0 ≡ getD m p 0 → ⊥
-      bad e = omega (arith, b .bare p)
+    bad : (p : ℕ) → Marked (set m 0 1) p → getD (set m 0 1) p 0 ≡ getD m p 0 → ⊥
+    bad p h e = omega (arith, b .bare p)
 
-  seeded : (p : ℕ) → p ≡ 0 → Marked (set m 0 1) p
-  seeded p e = rw e (getD-set-same m 0 1 0 (omega (arith, b .size)))
-
+module _ (l m m′ : List ℕ) (n r : ℕ) (b : Seeded m) (f : Spread (Joined l polyOf) n m m′) (u : LowestBare m′ n r) where
   pub lowest-of-spread : LowestCut l n r
   lowest-of-spread = record {
     within = u .within;
-    before = λ k h. reach-map (λ q s. start (only q s)) (λ p q j. j) (f .sound k (omega (arith, u .before k h, f .marks .bits k)));
-    cut = λ h c. omega (arith, u .bare h, f .whole r h (reach-map (λ q s. start (seeded q s)) (λ p q j. j) c));
+    before = λ k h. reach-map (λ q s. start (b .only q s)) (λ p q j. j) (f .sound k (omega (arith, u .before k h, f .marks .bits k)));
+    cut = λ h c. omega (arith, u .bare h, f .whole r h (reach-map (λ q s. start (subst (λ (x : ℕ). Marked m x) (sym s) (b .first))) (λ p q j. j) c));
   }

@@ -1,5 +1,5 @@
 -- The words of the rings: what each of them tells, and that each step of a ring has one.
-use Prim.Native.Nat.{ℕ, zero, suc, _+_, _*_, _-_, _/_, _%_, _≤_, _<_, min}
+use Prim.Native.Nat.{ℕ, zero, suc, _+_, _*_, _-_, _/_, _%_, _≤_, _<_, min, zero-le}
 use native.Mathlib.Decide.{ℕ-discrete}
 use native.Mathlib.Omega.{arith}
 use native.Mathlib.Nat.{le-refl, not-suc-le-zero}
@@ -9,7 +9,7 @@ use mathlib.Core.Bool.{Bool, true, false}
 use mathlib.Core.Logic.{inl, inr, ⊎-elim, by-cases}
 use mathlib.Core.List.{List, [], _∷_, _++_, map, append-nil, append-assoc}
 use lib.Dec.{eqb}
-use lib.ListN.{length, getD, take, drop, length-take}
+use lib.ListN.{length, getD, take, drop, length-take, length-append}
 use lib.Seq.{drop-cons}
 use Rattle.whole.specs.Lists.{steps, stepsFrom, tab}
 use Rattle.shell.specs.Edges.{edge, way, edgesOf, waysOf, all}
@@ -53,6 +53,11 @@ module _ {A : Type 0} where
   unfolding span
   span-same f g i zero h = refl
   span-same f g i (suc n) h = ap₂ (λ (x : A) (l : List A). x ∷ l) (h i (le-refl i) (omega arith)) (span-same f g (i + 1) n (λ k a b. h k (omega arith) (omega arith)))
+
+length-span : (f : ℕ → ℕ) (i n : ℕ) → length (span f i n) ≡ n
+unfolding span
+length-span f i zero = refl
+length-span f i (suc n) = ap suc (length-span f (i + 1) n)
 
 pub in-span : (f : ℕ → ℕ) (x i n : ℕ) → In x (span f i n) → (k : ℕ) × (i ≤ k) × (k < i + n) × (x ≡ f k)
 unfolding span
@@ -226,6 +231,18 @@ module _ (es st : List ℕ) (n : ℕ) (l : Loaded es st n) where
     where
       inner : (a b k : ℕ) → a ≤ k → k + 1 < b → k < a + (b - a - 1)
       inner a b k g h = omega arith
+
+  -- there are fewer words than entries
+  words-within : (m : ℕ) → m ≤ n → length (wordsTo es st m) ≤ getD st m 0
+  unfolding wordsTo
+  words-within zero h = zero-le
+  words-within (suc m) h = sum (getD st m 0) (getD st (m + 1) 0) (getD st (suc m) 0) (length (wordsTo es st m)) (length (wordsTo es st m ++ ringWords es st m)) (up .rises m h) (ap (λ (k : ℕ). getD st k 0) (add-one m)) (words-within m (omega arith)) (length-append (wordsTo es st m) (ringWords es st m) ∙ ap (λ (k : ℕ). length (wordsTo es st m) + k) (length-span (stepWord es m (getD st m 0) (getD st (m + 1) 0)) (getD st m 0) (getD st (m + 1) 0 - getD st m 0 - 1)))
+    where
+      sum : (a b c x y : ℕ) → a < b → b ≡ c → x ≤ a → y ≡ x + (b - a - 1) → y ≤ c
+      sum a b c x y h e k q = omega arith
+
+  pub words-few : length (wordsTo es st n) ≤ 1024
+  words-few = omega (arith, words-within n (le-refl n), l .begin .inside)
 
   -- the edges of ring p
   pub ring-edges : (p : ℕ) → p < n → edgesOf (ringAt es st p) ≡ span (λ i. edge (getD es i 0) (getD es (i + 1) 0)) (getD st p 0) (getD st (p + 1) 0 - getD st p 0 - 1)

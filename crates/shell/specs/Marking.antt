@@ -157,6 +157,42 @@ pub record Traced (L : ℕ → ℕ → Type 0) (m₀ m : List ℕ) : Type 0 wher
   pub sound : (p : ℕ) → Marked m p → Reach (Marked m₀) L p
   pub closed : Even L → (p q : ℕ) → Marked m p → L p q → Marked m q
 
+-- node 0 alone is marked
+pub record Seeded (m : List ℕ) : Type 0 where
+  pub marks : Marks m
+  pub first : Marked m 0
+  pub only : (p : ℕ) → Marked m p → p ≡ 0
+
+-- j is one above the last place before i of a word of polygon p, or 0
+pub record Last (l : List ℕ) (p i j : ℕ) : Type 0 where
+  pub within : j ≤ i
+  pub own : (c : ℕ) → j ≡ c + 1 → polyOf (getD l c 0) ≡ p
+  pub none : (k : ℕ) → j ≤ k → k < i → polyOf (getD l k 0) ≡ p → ⊥
+
+-- lists of the places of each polygon's words before i, each from its last place down
+pub record Listed (l head chain : List ℕ) (i : ℕ) : Type 0 where
+  pub size : length head ≡ 256
+  pub room : length chain ≡ 1024
+  pub heads : (p : ℕ) → p < 256 → Last l p i (getD head p 0)
+  pub nexts : (k : ℕ) → k < i → Last l (polyOf (getD l k 0)) k (getD chain k 0)
+
+-- the marked nodes, all below 256, are the first t of f
+pub record Queue (m f : List ℕ) (t : ℕ) : Type 0 where
+  pub marks : Marks m
+  pub size : length f ≡ 1024
+  pub room : t + zeros m ≤ 1024
+  pub held : (k : ℕ) → k < t → Marked m (getD f k 0) × (getD f k 0 < 256)
+  pub listed : (p : ℕ) → Marked m p → (k : ℕ) × (k < t) × (getD f k 0 ≡ p)
+
+-- the marks and their queue, with nodes S more
+pub record Widened (S : ℕ → Type 0) (m f : List ℕ) (t : ℕ) (m′ f′ : List ℕ) (t′ : ℕ) : Type 0 where
+  pub queue : Queue m′ f′ t′
+  pub grows : (p : ℕ) → Marked m p → Marked m′ p
+  pub kept : (k : ℕ) → k < t → getD f′ k 0 ≡ getD f k 0
+  pub longer : t ≤ t′
+  pub sound : (p : ℕ) → Marked m′ p → Marked m p ⊎ S p
+  pub whole : (p : ℕ) → S p → Marked m′ p
+
 -- the marks are exactly what the marks of m₀ reach
 pub record Flooded (R : ℕ → ℕ → Type 0) (m₀ m : List ℕ) : Type 0 where
   pub marks : Marks m

@@ -1,19 +1,19 @@
 -- `shell::marks::spread` meets its contract.
-use Prim.Native.Nat.{_+_, _*_}
-use native.Mathlib.Omega.{arith}
-use borrow.Author.Needs.{needs}
-use Rattle.shell.specs.Table.{polyOf}
-use Rattle.shell.specs.Marking.{Joined, zeros}
+use Rattle.shell.proofs.Joins.{flood-on, flood-open, spread-still, spread-all}
 use Rattle.shell.proofs.Sweeps.{Flooding, flood-none}
-use Rattle.shell.proofs.Joins.{flood-on, flood-falls, spread-still, spread-all}
+use Rattle.shell.specs.Marking.{Joined}
+use Rattle.shell.specs.Table.{polyOf}
+use borrow.Author.Needs.{needs}
+use native.Mathlib.Omega.{arith}
+use Prim.Native.Nat.{_-_}
 use Rattle.shell.proofs.marks.spread.Statement.{statement}
 use Rattle.shell.proofs.marks.spread.Tie as tie
 
 abbrev Inv-loop : tie.InvT-loop
-Inv-loop words n marks₀ changed₀ marks changed = Flooding (Joined words polyOf) marks₀ marks changed
+Inv-loop words n marks₀ i₀ marks i = Flooding (Joined words polyOf) marks₀ marks 1
 
 abbrev μ-loop : tie.MeasureT-loop
-μ-loop words n marks₀ changed₀ marks changed = zeros marks * 2 + changed
+μ-loop words n marks₀ i₀ marks i = 4 - i
 
 loop-holds : tie.Need-loop-holds Inv-loop μ-loop
 loop-holds c = flood-none _ _ (c .before .pre .0)
@@ -25,16 +25,22 @@ lowest-bare-requires : tie.Need-lowest-bare-requires Inv-loop μ-loop
 lowest-bare-requires c κs = (c .before .sweep .ensures .marks .size, c .before .before .before .before .before .before .pre .1)
 
 returns : tie.Need-returns Inv-loop μ-loop
-returns c = spread-all _ _ _ _ _ (flood-on _ _ _ _ _ _ (c .before .before .before .before .before .before .loop .inv) (c .before .before .before .sweep .ensures)) (c .before .lowest-bare .ensures) (c .if1 .taken)
-
-loop-less : tie.Need-loop-less Inv-loop μ-loop
-loop-less c = flood-falls _ _ _ _ _ _ (c .before .before .before .before .before .before .loop .inv) (c .before .before .before .sweep .ensures) (c .before .before .before .before .before .loop-test .taken)
-
-loop-again : tie.Need-loop-again Inv-loop μ-loop
-loop-again c = flood-on _ _ _ _ _ _ (c .before .before .before .before .before .before .loop .inv) (c .before .before .before .sweep .ensures)
+returns c = let w = c .before .before .before .sweep .ensures in (w .marks, λ _. spread-all _ _ _ _ _ (flood-on _ _ _ _ _ _ (c .before .before .before .before .before .before .loop .inv) w) (c .before .lowest-bare .ensures) (c .if1 .taken))
 
 returns-2 : tie.Need-returns-2 Inv-loop μ-loop
-returns-2 c = spread-still _ _ _ _ _ (c .before .loop .inv) (c .loop-test .left)
+returns-2 c = let w = c .before .before .before .before .sweep .ensures in (w .marks, λ _. spread-still _ _ _ _ _ (flood-on _ _ _ _ _ _ (c .before .before .before .before .before .before .before .loop .inv) w) (c .if2 .taken))
+
+add-i : tie.Need-add-i Inv-loop μ-loop
+add-i c = search needs
+
+loop-less : tie.Need-loop-less Inv-loop μ-loop
+loop-less c = search needs
+
+loop-again : tie.Need-loop-again Inv-loop μ-loop
+loop-again c = flood-open _ _ _ _ (flood-on _ _ _ _ _ _ (c .before .before .before .before .before .before .before .loop .inv) (c .before .before .before .before .sweep .ensures))
+
+returns-3 : tie.Need-returns-3 Inv-loop μ-loop
+returns-3 c = (c .before .loop .inv .marks, λ e. absurd (omega arith))
 
 pub spread-spec : {M : Type 1} → statement M
 spread-spec =
@@ -46,6 +52,8 @@ spread-spec =
     sweep-requires
     lowest-bare-requires
     returns
+    returns-2
+    add-i
     loop-less
     loop-again
-    returns-2)
+    returns-3)
