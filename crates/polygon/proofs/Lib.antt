@@ -9,4 +9,5 @@ mod Pairs
 mod Filled
 mod Covering
 mod Nearness
+mod Around
 mod Order

@@ -4,8 +4,8 @@ use native.Mathlib.Omega.{arith}
 use mathlib.Core.Path.{_≡_, refl, sym, ap, ap₂, _∙_, subst}
 use mathlib.Core.Bool.{Bool, true, false, not, _&&_, _||_}
 use mathlib.Core.List.{List}
-use borrow.Author.Tests.{ltb-true, lt-ltb, ne-eqb}
-use lib.Dec.{eqb, ltb}
+use borrow.Author.Tests.{ltb-true, lt-ltb}
+use lib.Dec.{ltb}
 use lib.ListN.{getD, drop}
 use native.Mathlib.Decide.{decLt}
 use lib.IntN.{ℤ, pos}
@@ -14,7 +14,7 @@ use Rattle.whole.specs.Lists.{any}
 use Rattle.polygon.specs.Plane.{overlap}
 use Rattle.polygon.specs.Ring.{forbidden}
 use Rattle.polygon.specs.Leaves.{least, most, edgeAt}
-use Rattle.polygon.specs.Boxes.{step, Covered, Sides, Boxes, parted, Parted}
+use Rattle.polygon.specs.Boxes.{step, Covered, Sides, Boxes, parted, Parted, Apart}
 use Rattle.whole.specs.Bools.{and-left, and-right}
 use Rattle.polygon.proofs.Stretches.{most-below, least-above, box-apart}
 use Rattle.polygon.proofs.Covering.{step-order}
@@ -44,34 +44,31 @@ module _ {us : List ℤ} {m : ℕ} {ls hs : List ℕ} (s : Sides us m ls hs) whe
       sym (box-apart (getD us i (pos 0)) (getD us (i + 1) (pos 0)) (getD us j (pos 0)) (getD us (j + 1) (pos 0)))
       ∙ or-both (ltb (getD hs i 0) (getD ls j 0)) (ltb (getD hs j 0) (getD ls i 0)) _ _ (λ t. box-under i j a b (ltb-true (getD hs i 0) (getD ls j 0) t)) (λ t. box-under j i b a (ltb-true (getD hs j 0) (getD ls i 0) t)) e
 
-pub first-and : (i n m : ℕ) → 1 ≤ i → (eqb i 0 && eqb n m) ≡ false
-first-and i n m h = ap (λ (t : Bool). t && eqb n m) (ne-eqb i 0 (λ e. absurd (omega arith)))
-
-module _ {us vs : List ℤ} {m : ℕ} {lus hus lvs hvs : List ℕ} (x : Boxes us vs m lus hus lvs hvs) (i : ℕ) (p : 1 ≤ i) where
-  pub parted-edges : (k : ℕ) → i + 1 < k → k < m → (parted lus hus i k || parted lvs hvs i k) ≡ true → forbidden m (i, edgeAt us vs i) (k, edgeAt us vs k) ≡ false
-  parted-edges k a b e =
+module _ {us vs : List ℤ} {m : ℕ} {lus hus lvs hvs : List ℕ} (x : Boxes us vs m lus hus lvs hvs) (i : ℕ) {end : ℕ} (p : Apart m i end) where
+  pub parted-edges : (k : ℕ) → i + 1 < k → k < m → k < end → (parted lus hus i k || parted lvs hvs i k) ≡ true → forbidden m (i, edgeAt us vs i) (k, edgeAt us vs k) ≡ false
+  parted-edges k a b c e =
       sym (share-apart (edgeAt us vs i) (edgeAt us vs k) refl refl (or-both (parted lus hus i k) (parted lvs hvs i k) _ _ (parted-apart (x .on-u) i k (omega arith) b) (parted-apart (x .on-v) i k (omega arith) b) e)
-      ∙ clash-other m i k (edgeAt us vs i) (edgeAt us vs k) (omega arith) (λ z. omega arith) (first-and i (k + 1) m p))
+      ∙ clash-other m i k (edgeAt us vs i) (edgeAt us vs k) (omega arith) (λ z. omega arith) (p .each k c))
 
   -- ---- a row: a stretch of edges whose boxes are parted tells nothing
   module _ {j e : ℕ} {r : Bool} (q : Parted lus hus lvs hvs i j e r) (t : r ≡ true) (a : i + 1 < j) where
     abbrev rest-of : ℕ → Bool
     rest-of n = any (forbidden m (i, edgeAt us vs i)) (drop n (edges us vs m))
 
-    parted-some : (d : ℕ) → j + d ≤ e → j + d ≤ m → rest-of j ≡ rest-of (j + d)
-    parted-some zero h l = let z : j ≡ j + 0 = omega arith in ap rest-of z
-    parted-some (suc d) h l =
+    parted-some : (d : ℕ) → j + d ≤ e → j + d ≤ m → j + d ≤ end → rest-of j ≡ rest-of (j + d)
+    parted-some zero h l g = let z : j ≡ j + 0 = omega arith in ap rest-of z
+    parted-some (suc d) h l g =
         let z : j + d + 1 ≡ j + suc d = omega arith in
-        parted-some d (omega arith) (omega arith) ∙ more ∙ ap rest-of z
+        parted-some d (omega arith) (omega arith) (omega arith) ∙ more ∙ ap rest-of z
       where
         more : rest-of (j + d) ≡ rest-of (j + d + 1)
-        more = sym (row-next us vs m (forbidden m (i, edgeAt us vs i)) (j + d) (omega arith) (parted-edges (j + d) (omega arith) (omega arith) (q .each t (j + d) (omega arith) (omega arith))))
+        more = sym (row-next us vs m (forbidden m (i, edgeAt us vs i)) (j + d) (omega arith) (parted-edges (j + d) (omega arith) (omega arith) (omega arith) (q .each t (j + d) (omega arith) (omega arith))))
 
-    pub parted-row : (n : ℕ) → j ≤ n → n ≤ m → n ≤ e
+    pub parted-row : (n : ℕ) → j ≤ n → n ≤ m → n ≤ e → n ≤ end
         → any (forbidden m (i, edgeAt us vs i)) (drop j (edges us vs m)) ≡ any (forbidden m (i, edgeAt us vs i)) (drop n (edges us vs m))
-    parted-row n b c d =
+    parted-row n b c d g =
         let z : j + (n - j) ≡ n = omega arith in
-        parted-some (n - j) (omega arith) (omega arith) ∙ ap rest-of z
+        parted-some (n - j) (omega arith) (omega arith) (omega arith) ∙ ap rest-of z
 
 -- ---- boxes one after another
 module _ {lus hus lvs hvs : List ℕ} {i : ℕ} where
@@ -106,12 +103,22 @@ module _ {m : ℕ} {ls hs : List ℕ} (s : Covered m ls hs) (i k : ℕ) (h : k <
       (λ t. lt-ltb (getD hs k 0) (getD ls i 0) (omega (arith, ltb-true (getD hs (144 + k / 8) 0) (getD ls i 0) t, s .high k h)))
       e
 
+pub covered-less : {m n : ℕ} {ls hs : List ℕ} → Covered m ls hs → n ≤ m → Covered n ls hs
+covered-less s h = record { low-all = s .low-all; high-all = s .high-all; low = λ k l. s .low k (omega arith); high = λ k l. s .high k (omega arith) }
+
 pub parted-blocks : {m : ℕ} {lus hus lvs hvs : List ℕ} → Covered m lus hus → Covered m lvs hvs → {i : ℕ} (e c : ℕ) → Parted lus hus lvs hvs i (144 + e / 8) (144 + c) true
     → (r : ℕ) → r ≤ m → r ≤ 8 * c → Parted lus hus lvs hvs i e r true
 parted-blocks {m} {lus} {hus} {lvs} {hvs} x y {i} e c p r h l =
     record { each = λ t k a b. or-both (parted lus hus i (144 + k / 8)) (parted lvs hvs i (144 + k / 8)) (parted lus hus i k) (parted lvs hvs i k) (parted-block x i k (omega arith)) (parted-block y i k (omega arith)) (p .each refl (144 + k / 8) (omega arith) (omega arith)) }
 
 -- ---- a row that is told in two parts
+pub or-end : (r a b : Bool) → a ≡ (r || b) → b ≡ false → r ≡ a
+or-end r a b e f = sym (e ∙ ap (λ (t : Bool). r || t) f ∙ go r)
+  where
+    go : (r : Bool) → (r || false) ≡ r
+    go true = refl
+    go false = refl
+
 pub or-found : (r a b : Bool) → a ≡ (r || b) → r ≡ true → a ≡ true
 or-found r a b e f = e ∙ ap (λ (t : Bool). t || b) f
 

@@ -1,5 +1,5 @@
 -- Check 05, pair of edges by pair of edges.
-use Prim.Native.Nat.{ℕ, suc, _+_, _-_, _<_}
+use Prim.Native.Nat.{ℕ, zero, suc, _+_, _-_, _<_}
 use native.Mathlib.Omega.{arith}
 use native.Mathlib.Numerals.{add-one}
 use mathlib.Core.Path.{_≡_, refl, sym, ap, ap₂, _∙_, subst}
@@ -121,8 +121,22 @@ module _ (us vs : List ℤ) (m : ℕ) where
     pub row-next : j < m → t (j, edgeAt us vs j) ≡ false → any t (drop (j + 1) edges) ≡ any t (drop j edges)
     row-next h e = sym (any-next t edges j nowhere (inside j h) (ap t (edge-is j h) ∙ e))
 
+    pub row-back : j < m → any t (drop (j + 1) edges) ≡ true → any t (drop j edges) ≡ true
+    row-back h e = go (t (j, edgeAt us vs j)) refl
+      where
+        go : (b : Bool) → t (j, edgeAt us vs j) ≡ b → any t (drop j edges) ≡ true
+        go true z = row-here h z
+        go false z = sym (row-next h z) ∙ e
+
     pub row-end : j ≡ m → any t (drop j edges) ≡ false
     row-end e = any-end t edges j (e ∙ sym edges-length)
+
+  -- what is found from a later edge on is found from an earlier one on
+  pub row-back-to : (t : ℕ × Segment → Bool) (j d : ℕ) → j + d < m → any t (drop (j + d) edges) ≡ true → any t (drop j edges) ≡ true
+  row-back-to t j zero h e = let z : j ≡ j + 0 = omega arith in ap (λ (n : ℕ). any t (drop n edges)) z ∙ e
+  row-back-to t j (suc d) h e =
+      let z : j + d + 1 ≡ j + suc d = omega arith in
+      row-back-to t j d (omega arith) (row-back t (j + d) (omega arith) (ap (λ (n : ℕ). any t (drop n edges)) z ∙ e))
 
   -- ---- all rows
   pub rows-all : anyTwo (forbidden m) edges ≡ isCrossed (tab (edgeAt us vs) m)
@@ -138,3 +152,18 @@ module _ (us vs : List ℤ) (m : ℕ) where
 
     pub rows-end : i ≡ m → anyTwo (forbidden m) (drop i edges) ≡ false
     rows-end e = two-end (forbidden m) edges i (e ∙ sym edges-length)
+
+    rows-back : i < m → anyTwo (forbidden m) (drop (i + 1) edges) ≡ true → anyTwo (forbidden m) (drop i edges) ≡ true
+    rows-back h e = go (any (forbidden m (i, edgeAt us vs i)) (drop (i + 1) edges)) refl
+      where
+        go : (b : Bool) → any (forbidden m (i, edgeAt us vs i)) (drop (i + 1) edges) ≡ b → anyTwo (forbidden m) (drop i edges) ≡ true
+        go true z = rows-here h z
+        go false z = sym (rows-next h z) ∙ e
+
+  rows-back-to : (i : ℕ) → i < m → anyTwo (forbidden m) (drop i edges) ≡ true → isCrossed (tab (edgeAt us vs) m) ≡ true
+  rows-back-to zero h e = sym rows-all ∙ e
+  rows-back-to (suc i) h e = rows-back-to i (omega arith) (rows-back i (omega arith) (ap (λ (n : ℕ). anyTwo (forbidden m) (drop n edges)) (add-one i) ∙ e))
+
+  -- a row in which something is found
+  pub crossed-row : (i : ℕ) → i < m → any (forbidden m (i, edgeAt us vs i)) (drop (i + 1) edges) ≡ true → isCrossed (tab (edgeAt us vs) m) ≡ true
+  crossed-row i h e = rows-back-to i h (rows-here i h e)

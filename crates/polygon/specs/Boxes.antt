@@ -1,12 +1,15 @@
 -- The boxes of edges that code holds for check 05, and of blocks of eight edges: on either axis, the least and the largest step.
-use Prim.Native.Nat.{ℕ, _+_, _/_, _<_, _≤_, min, max}
+use Prim.Native.Nat.{ℕ, _+_, _-_, _/_, _<_, _≤_, min, max}
 use mathlib.Core.Path.{_≡_}
-use mathlib.Core.Bool.{Bool, true, false, cond, _||_}
+use mathlib.Core.Bool.{Bool, true, false, cond, _&&_, _||_}
 use mathlib.Core.List.{List}
-use lib.Dec.{ltb}
+use lib.Dec.{ltb, eqb}
 use lib.ListN.{getD, length}
 use lib.IntN.{ℤ, pos, natAbs, _+ℤ_}
+use Rattle.whole.specs.Lists.{tab}
 use Rattle.whole.specs.Size.{Small}
+use Rattle.polygon.specs.Ring.{forbidden, isCrossed}
+use Rattle.polygon.specs.Leaves.{edgeAt}
 
 -- the step that a coordinate is on, four to a step, counted from the least coordinate
 abbrev pub step : ℤ → ℕ
@@ -73,3 +76,22 @@ parted ls hs i k = ltb (getD hs i 0) (getD ls k 0) || ltb (getD hs k 0) (getD ls
 -- where r holds, the boxes from j up to e are parted from box i
 pub record Parted (lus hus lvs hvs : List ℕ) (i j e : ℕ) (r : Bool) : Type 0 where
   pub each : r ≡ true → (k : ℕ) → j ≤ k → k < e → (parted lus hus i k || parted lvs hvs i k) ≡ true
+
+-- none before e is the last of m edges where i is the first: past the next one, these are no neighbours of edge i
+pub record Apart (m i e : ℕ) : Type 0 where
+  pub each : (k : ℕ) → k < e → (eqb i 0 && eqb (k + 1) m) ≡ false
+
+-- no two neighbours among m edges have in common what they may not
+pub record Free (us vs : List ℤ) (m : ℕ) : Type 0 where
+  pub next : (i : ℕ) → i + 1 < m → forbidden m (i, edgeAt us vs i) (i + 1, edgeAt us vs (i + 1)) ≡ false
+  pub last : 3 ≤ m → forbidden m (0, edgeAt us vs 0) (m - 1, edgeAt us vs (m - 1)) ≡ false
+
+-- whether two edges do that follow one another: not so of the first n, and only where m edges cross
+pub record Nexts (us vs : List ℤ) (m n : ℕ) (r : Bool) : Type 0 where
+  pub none : r ≡ false → (i : ℕ) → i < n → i + 1 < m → forbidden m (i, edgeAt us vs i) (i + 1, edgeAt us vs (i + 1)) ≡ false
+  pub some : r ≡ true → isCrossed (tab (edgeAt us vs) m) ≡ true
+
+-- whether two neighbours do
+pub record Nears (us vs : List ℤ) (m : ℕ) (r : Bool) : Type 0 where
+  pub none : r ≡ false → Free us vs m
+  pub some : r ≡ true → isCrossed (tab (edgeAt us vs) m) ≡ true

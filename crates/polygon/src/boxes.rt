@@ -3,13 +3,14 @@
 use super::plane;
 ghost use mathlib.Core.Path.{_≡_};
 ghost use mathlib.Core.Bool.{true, _||_};
-ghost use Prim.Native.Nat.{_+_, _<_, _≤_};
+ghost use mathlib.Core.Logic.{_⊎_};
+ghost use Prim.Native.Nat.{_+_, _-_, _<_, _≤_};
 ghost use lib.ListN.{length, drop};
 ghost use Rattle.whole.specs.Lists.{any, numbered, tab};
 ghost use Rattle.whole.specs.Size.{Small};
 ghost use Rattle.polygon.specs.Ring.{forbidden, isCrossed};
 ghost use Rattle.polygon.specs.Leaves.{edgeAt, Spread};
-ghost use Rattle.polygon.specs.Boxes.{step, ending, Line, Steps, Endings, Ahead, Blocks, Covered, Sides, Boxes, parted, Parted};
+ghost use Rattle.polygon.specs.Boxes.{step, ending, Line, Steps, Endings, Ahead, Blocks, Covered, Sides, Boxes, parted, Parted, Apart, Nexts, Nears, Free};
 
 // Which step of four numbers a coordinate is on: in so little room, eight are held against a box at once.
 fn step(z: i64) -> u16
@@ -127,7 +128,7 @@ fn eight_parted(lus: &[u16], hus: &[u16], lvs: &[u16], hvs: &[u16], i: usize, j:
     all
 }
 
-// Whether edges i and k of m, i not the first and k past its neighbour, do.
+// Whether edges i and k of m, k past the neighbours of i, do.
 fn clash_past(
     us: &[i64],
     vs: &[i64],
@@ -141,7 +142,7 @@ fn clash_past(
 ) -> bool
     requires { ⌜ Spread (now us) (now vs) m ⌝ }
     requires { ⌜ Boxes (now us) (now vs) m (now lus) (now hus) (now lvs) (now hvs) ⌝ }
-    requires { ⌜ (1 ≤ i) × (i + 1 < k) × (k < m) ⌝ }
+    requires { ⌜ (i + 1 < k) × (k < m) × Apart m i (k + 1) ⌝ }
     ensures { λ r. ⌜ r ≡ forbidden m (i, edgeAt (now (us .entry)) (now (vs .entry)) i) (k, edgeAt (now (us .entry)) (now (vs .entry)) k) ⌝ }
 {
     let beside = parted(lus, hus, i, k);
@@ -152,7 +153,7 @@ fn clash_past(
     plane::share(plane::edge_at(us, vs, i), plane::edge_at(us, vs, k))
 }
 
-// Whether edge i of m, not the first, and one from j up to e, past its neighbour, do.
+// Whether edge i of m and one from j up to e, past its neighbours, do.
 fn clashes_in(
     us: &[i64],
     vs: &[i64],
@@ -167,7 +168,7 @@ fn clashes_in(
 ) -> bool
     requires { ⌜ Spread (now us) (now vs) m ⌝ }
     requires { ⌜ Boxes (now us) (now vs) m (now lus) (now hus) (now lvs) (now hvs) ⌝ }
-    requires { ⌜ (1 ≤ i) × (i + 1 < j) × (j ≤ e) × (e ≤ m) ⌝ }
+    requires { ⌜ (i + 1 < j) × (j ≤ e) × (e ≤ m) × Apart m i e ⌝ }
     ensures { λ r. ⌜ any (forbidden m (i, edgeAt (now (us .entry)) (now (vs .entry)) i)) (drop j (numbered (tab (edgeAt (now (us .entry)) (now (vs .entry))) m))) ≡ (r || any (forbidden m (i, edgeAt (now (us .entry)) (now (vs .entry)) i)) (drop e (numbered (tab (edgeAt (now (us .entry)) (now (vs .entry))) m)))) ⌝ }
 {
     let mut n = j;
@@ -195,7 +196,7 @@ fn clashes_eight(
 ) -> bool
     requires { ⌜ Spread (now us) (now vs) m ⌝ }
     requires { ⌜ Boxes (now us) (now vs) m (now lus) (now hus) (now lvs) (now hvs) ⌝ }
-    requires { ⌜ (1 ≤ i) × (i + 1 < j) × (j < m) × (j ≤ e) × (e ≤ m) × (e ≤ j + 8) ⌝ }
+    requires { ⌜ (i + 1 < j) × (j < m) × (j ≤ e) × (e ≤ m) × (e ≤ j + 8) × Apart m i e ⌝ }
     ensures { λ r. ⌜ any (forbidden m (i, edgeAt (now (us .entry)) (now (vs .entry)) i)) (drop j (numbered (tab (edgeAt (now (us .entry)) (now (vs .entry))) m))) ≡ (r || any (forbidden m (i, edgeAt (now (us .entry)) (now (vs .entry)) i)) (drop e (numbered (tab (edgeAt (now (us .entry)) (now (vs .entry))) m)))) ⌝ }
 {
     if eight_parted(lus, hus, lvs, hvs, i, j) {
@@ -270,7 +271,7 @@ fn next_near(
     if j < m { j } else { m }
 }
 
-// Whether edge i of m, not the first, and a later one past its neighbour do.
+// Whether edge i of m and a later one before the end, past its neighbours, do.
 fn clashes_past(
     us: &[i64],
     vs: &[i64],
@@ -280,19 +281,20 @@ fn clashes_past(
     hvs: &[u16],
     m: usize,
     i: usize,
+    end: usize,
 ) -> bool
     requires { ⌜ Spread (now us) (now vs) m ⌝ }
     requires { ⌜ Boxes (now us) (now vs) m (now lus) (now hus) (now lvs) (now hvs) ⌝ }
-    requires { ⌜ (1 ≤ i) × (i + 1 < m) ⌝ }
-    ensures { λ r. ⌜ r ≡ any (forbidden m (i, edgeAt (now (us .entry)) (now (vs .entry)) i)) (drop (i + 2) (numbered (tab (edgeAt (now (us .entry)) (now (vs .entry))) m))) ⌝ }
+    requires { ⌜ (i + 2 ≤ end) × (end ≤ m) × Apart m i end ⌝ }
+    ensures { λ r. ⌜ any (forbidden m (i, edgeAt (now (us .entry)) (now (vs .entry)) i)) (drop (i + 2) (numbered (tab (edgeAt (now (us .entry)) (now (vs .entry))) m))) ≡ (r || any (forbidden m (i, edgeAt (now (us .entry)) (now (vs .entry)) i)) (drop end (numbered (tab (edgeAt (now (us .entry)) (now (vs .entry))) m)))) ⌝ }
 {
     let mut j = i + 2;
-    while j < m {
-        let e = eight_on(j, m);
+    while j < end {
+        let e = eight_on(j, end);
         if clashes_eight(us, vs, lus, hus, lvs, hvs, m, i, j, e) {
             return true;
         }
-        j = next_near(lus, hus, lvs, hvs, m, i, e);
+        j = next_near(lus, hus, lvs, hvs, end, i, e);
     }
     false
 }
@@ -307,7 +309,41 @@ fn clash_next(us: &[i64], vs: &[i64], m: usize, i: usize) -> bool
     plane::share_more(plane::edge_at(us, vs, i), plane::edge_at(us, vs, next))
 }
 
-// Whether edge i of m, not the first, and a later one do.
+// Whether some edge of m and the next one do: no step of this branches.
+fn clash_nexts(us: &[i64], vs: &[i64], m: usize) -> bool
+    requires { ⌜ Spread (now us) (now vs) m ⌝ }
+    requires { ⌜ m ≤ 128 ⌝ }
+    ensures { λ r. ⌜ Nexts (now (us .entry)) (now (vs .entry)) m m r ⌝ }
+{
+    let mut found = false;
+    let mut i: usize = 0;
+    while i + 1 < m {
+        let clash = clash_next(us, vs, m, i);
+        found = found | clash;
+        i += 1;
+    }
+    found
+}
+
+// Whether the first edge of m and the last, which goes before it, do.
+fn clash_last(us: &[i64], vs: &[i64], m: usize) -> bool
+    requires { ⌜ Spread (now us) (now vs) m ⌝ }
+    requires { ⌜ 3 ≤ m ⌝ }
+    ensures { λ r. ⌜ r ≡ forbidden m (0, edgeAt (now (us .entry)) (now (vs .entry)) 0) (m - 1, edgeAt (now (us .entry)) (now (vs .entry)) (m - 1)) ⌝ }
+{
+    let last = m - 1;
+    plane::share_more(plane::edge_at(us, vs, last), plane::edge_at(us, vs, 0))
+}
+
+// Where the edges end that are no neighbours of edge i of m, from past the next one on: the last is one of the first.
+fn end_of(m: usize, i: usize) -> usize
+    requires { ⌜ 1 ≤ m ⌝ }
+    ensures { λ r. ⌜ (r ≤ m) × (Apart m i r) × ((r ≡ m) ⊎ ((i ≡ 0) × (r + 1 ≡ m))) ⌝ }
+{
+    if i == 0 { m - 1 } else { m }
+}
+
+// Whether edge i of m and a later one do, where neighbours do not.
 fn clashes_boxed(
     us: &[i64],
     vs: &[i64],
@@ -320,21 +356,18 @@ fn clashes_boxed(
 ) -> bool
     requires { ⌜ Spread (now us) (now vs) m ⌝ }
     requires { ⌜ Boxes (now us) (now vs) m (now lus) (now hus) (now lvs) (now hvs) ⌝ }
-    requires { ⌜ (1 ≤ i) × (i < m) ⌝ }
+    requires { ⌜ (Free (now us) (now vs) m) × (i < m) ⌝ }
     ensures { λ r. ⌜ r ≡ any (forbidden m (i, edgeAt (now (us .entry)) (now (vs .entry)) i)) (drop (i + 1) (numbered (tab (edgeAt (now (us .entry)) (now (vs .entry))) m))) ⌝ }
 {
-    let next = i + 1;
-    if next == m {
+    let end = end_of(m, i);
+    if end < i + 2 {
         return false;
     }
-    if clash_next(us, vs, m, i) {
-        return true;
-    }
-    clashes_past(us, vs, lus, hus, lvs, hvs, m, i)
+    clashes_past(us, vs, lus, hus, lvs, hvs, m, i, end)
 }
 
-// Whether some two of m edges do, told by their boxes where these are parted.
-fn crossings_boxed(
+// Whether some two of m edges do, where neighbours do not.
+fn crossings_past(
     us: &[i64],
     vs: &[i64],
     lus: &[u16],
@@ -345,13 +378,10 @@ fn crossings_boxed(
 ) -> bool
     requires { ⌜ Spread (now us) (now vs) m ⌝ }
     requires { ⌜ Boxes (now us) (now vs) m (now lus) (now hus) (now lvs) (now hvs) ⌝ }
-    requires { ⌜ 1 ≤ m ⌝ }
+    requires { ⌜ Free (now us) (now vs) m ⌝ }
     ensures { λ r. ⌜ r ≡ isCrossed (tab (edgeAt (now (us .entry)) (now (vs .entry))) m) ⌝ }
 {
-    if plane::clashes(us, vs, m, 0) {
-        return true;
-    }
-    let mut i: usize = 1;
+    let mut i: usize = 0;
     while i < m {
         if clashes_boxed(us, vs, lus, hus, lvs, hvs, m, i) {
             return true;
@@ -361,17 +391,35 @@ fn crossings_boxed(
     false
 }
 
-// The same, the boxes being made first.
+// Whether two neighbours among m edges do.
+fn clash_near(us: &[i64], vs: &[i64], m: usize) -> bool
+    requires { ⌜ Spread (now us) (now vs) m ⌝ }
+    requires { ⌜ m ≤ 128 ⌝ }
+    ensures { λ r. ⌜ Nears (now (us .entry)) (now (vs .entry)) m r ⌝ }
+{
+    if clash_nexts(us, vs, m) {
+        return true;
+    }
+    if m < 3 {
+        return false;
+    }
+    clash_last(us, vs, m)
+}
+
+// Whether some two of m edges do: neighbours first, then the others by their boxes.
 pub fn crossings_many(us: &[i64], vs: &[i64], m: usize) -> bool
     requires { ⌜ Spread (now us) (now vs) m ⌝ }
     requires { ⌜ (1 ≤ m) × (m ≤ 128) ⌝ }
     ensures { λ r. ⌜ r ≡ isCrossed (tab (edgeAt (now (us .entry)) (now (vs .entry))) m) ⌝ }
 {
+    if clash_near(us, vs, m) {
+        return true;
+    }
     let mut lus: [u16; 176] = [65535; 176];
     let mut hus: [u16; 176] = [0; 176];
     let mut lvs: [u16; 176] = [65535; 176];
     let mut hvs: [u16; 176] = [0; 176];
     sides(us, m, &mut lus, &mut hus);
     sides(vs, m, &mut lvs, &mut hvs);
-    crossings_boxed(us, vs, &lus, &hus, &lvs, &hvs, m)
+    crossings_past(us, vs, &lus, &hus, &lvs, &hvs, m)
 }

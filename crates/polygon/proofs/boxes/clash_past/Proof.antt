@@ -2,11 +2,10 @@
 use native.Mathlib.Omega.{arith}
 use mathlib.Core.Path.{_∙_, sym, ap₂}
 use mathlib.Core.Bool.{_||_}
-use Prim.Native.Nat.{_+_}
 use borrow.Author.Needs.{needs}
 use Rattle.polygon.specs.Plane.{share}
 use Rattle.polygon.proofs.Pairs.{clash-other, ends-at, ends-same}
-use Rattle.polygon.proofs.Nearness.{parted-edges, first-and}
+use Rattle.polygon.proofs.Nearness.{parted-edges}
 use Rattle.polygon.proofs.boxes.clash_past.Statement.{statement}
 use Rattle.polygon.proofs.boxes.clash_past.Tie as tie
 
@@ -20,7 +19,7 @@ returns : tie.Need-returns
 returns c =
     let s = c .before .before .before .before .before .before .before in
     let h = s .pre .1 .1 in
-    sym (parted-edges (s .pre .1 .0) (s .args .i) (h .0) (s .args .k) (h .1) (h .2) (sym (ap₂ _||_ (c .before .before .parted .ensures) (c .before .parted2 .ensures)) ∙ c .if1 .taken))
+    sym (parted-edges (s .pre .1 .0) (s .args .i) (h .2) (s .args .k) (h .0) (h .1) (omega arith) (sym (ap₂ _||_ (c .before .before .parted .ensures) (c .before .parted2 .ensures)) ∙ c .if1 .taken))
 
 edge-at-requires : tie.Need-edge-at-requires
 edge-at-requires c κs = search needs
@@ -39,7 +38,7 @@ returns-2 c =
     let s = c .before .before .before .before .before .before .before .before .before .before in
     let h = s .pre .1 .1 in
     c .share .ensures ∙ ap₂ share (c .before .before .edge-at .ensures) (c .before .edge-at2 .ensures)
-    ∙ clash-other (s .args .m) (s .args .i) (s .args .k) _ _ (omega arith) (λ z. omega arith) (first-and (s .args .i) (s .args .k + 1) (s .args .m) (h .0))
+    ∙ clash-other (s .args .m) (s .args .i) (s .args .k) _ _ (omega arith) (λ z. omega arith) (h .2 .each (s .args .k) (omega arith))
 
 pub clash-past-spec : {M : Type 1} → statement M
 clash-past-spec =

@@ -12,7 +12,7 @@ returns : tie.Need-returns
 returns c =
     let s = c .before .before .before .before .before .before in
     let h = s .pre .1 .1 in
-    parted-row (s .pre .1 .0) (s .args .i) (h .0) (c .before .eight-parted .ensures) (c .if1 .taken) (h .1) (s .args .e) (omega arith) (omega arith) (omega arith)
+    parted-row (s .pre .1 .0) (s .args .i) (h .5) (c .before .eight-parted .ensures) (c .if1 .taken) (h .0) (s .args .e) (omega arith) (omega arith) (omega arith) (omega arith)
 
 clashes-in-requires : tie.Need-clashes-in-requires
 clashes-in-requires c κs = search needs

@@ -8,6 +8,7 @@ use Rattle.whole.specs.Lists.{any}
 use Rattle.polygon.specs.Leaves.{edgeAt}
 use Rattle.polygon.specs.Ring.{forbidden}
 use Rattle.polygon.proofs.Pairs.{edges, row-here, row-next}
+use Rattle.polygon.proofs.Around.{apart-less}
 use Rattle.polygon.proofs.boxes.clashes_in.Statement.{statement}
 use Rattle.polygon.proofs.boxes.clashes_in.Tie as tie
 
@@ -23,7 +24,7 @@ loop-holds c = (omega arith, omega arith, refl)
 clash-past-requires : tie.Need-clash-past-requires Inv-loop μ-loop
 clash-past-requires c κs =
     let s = c .before .before .before .before .before .before in
-    (s .pre .0, (s .pre .1 .0, (omega arith, omega arith, omega arith)))
+    (s .pre .0, (s .pre .1 .0, (omega arith, omega arith, apart-less (s .pre .1 .1 .3) _ (omega arith))))
 
 returns : tie.Need-returns Inv-loop μ-loop
 returns c =
