@@ -312,13 +312,12 @@ fn lowest_bare(marks: &[u8; 1024], n: usize) -> usize
     i
 }
 
-// Polygon 0 marked.
-fn seeded() -> [u8; 1024]
-    ensures { λ r. ⌜ Seeded r ⌝ }
+// Marks polygon 0.
+fn seed(marks: &mut [u8; 1024])
+    requires { ⌜ Blank (now marks) ⌝ }
+    ensures { λ r. ⌜ Seeded (now (marks .exit)) ⌝ }
 {
-    let mut marks = blank();
     marks[0] = 1;
-    marks
 }
 
 // Check 0B by sweeps: the lowest polygon that polygon 0 does not reach across pairs, or the number of polygons; 1,024 where the sweeps
@@ -327,7 +326,8 @@ fn apart_swept(words: &[u64], polygons: usize) -> usize
     requires { ⌜ polygons ≤ 256 ⌝ }
     ensures { λ r. ⌜ (r ≤ polygons → LowestCut (now (words .entry)) polygons r) ⌝ }
 {
-    let mut marks = seeded();
+    let mut marks = blank();
+    seed(&mut marks);
     let done = spread(words, polygons, &mut marks);
     if done == 1 {
         return lowest_bare(&marks, polygons);
@@ -343,7 +343,8 @@ fn apart_taken(words: &[u64], polygons: usize) -> usize
     if 1024 < words.len() {
         return polygons;
     }
-    let mut marks = seeded();
+    let mut marks = blank();
+    seed(&mut marks);
     reach(words, &mut marks);
     lowest_bare(&marks, polygons)
 }
