@@ -1,16 +1,17 @@
 -- How often a number stands in a sorted list, by its runs.
 use Prim.Native.Nat.{ℕ, zero, suc, _+_, _-_, _≤_, _<_, zero-le, suc-le-suc}
-use native.Mathlib.Nat.{le-refl, le-antisymm, le-of-suc-le-suc, not-suc-le-zero}
+use native.Mathlib.Nat.{suc-ne-zero, le-refl, le-antisymm, le-of-suc-le-suc, not-suc-le-zero}
 use native.Mathlib.Decide.{ℕ-discrete, decLt}
 use native.Mathlib.Omega.{arith}
 use mathlib.Core.Path.{_≡_, refl, sym, ap, _∙_}
-use mathlib.Core.Bool.{Bool, true, _&&_, not}
+use mathlib.Core.Bool.{Bool, true, false, _&&_, not, true≢false}
 use mathlib.Core.Logic.{_≢_, by-cases}
 use mathlib.Core.List.{List, [], _∷_, map}
-use borrow.Author.Tests.{eqb-true, eqb-false, not-true, eq-eqb, ne-eqb}
+use borrow.Author.Tests.{eqb-true, eqb-false, not-true, not-false, eq-eqb, ne-eqb}
 use lib.Dec.{eqb}
 use lib.ListN.{length, getD, length-map, List·getD-map}
 use Rattle.whole.specs.Bools.{and-left, and-right}
+use Rattle.whole.specs.Stores.{cases}
 use Rattle.shell.specs.Edges.{count}
 use Rattle.shell.specs.Tallies.{tally-cons, tally-nil, one-yes, one-no}
 use Rattle.shell.specs.Table.{keyOf}
@@ -236,21 +237,89 @@ key-below l i h = rw length-map h
 pub key-above : (l : List ℕ) (i : ℕ) → length l ≤ i → length (map keyOf l) ≤ i
 key-above l i h = rw length-map h
 
--- a pair of words of one edge, in a sweep that has found pairs alone up to i where `two` holds
-module _ (l : List ℕ) (asc : Asc l) (i a b : ℕ) (two : Bool) (f : two ≡ true → Pairing (map keyOf l) i) (ha : a ≡ keyOf (getD l i 0)) (hb : b ≡ keyOf (getD l (i + 1) 0)) where
-  pair-here : i + 1 < length l → (two && eqb a b) ≡ true → (i + 2 < length (map keyOf l) → getD (map keyOf l) (i + 2) 0 ≡ getD (map keyOf l) i 0 → ⊥) → Pairing (map keyOf l) (i + 2)
-  pair-here h e stop =
-      let same : b ≡ a = sym (eqb-true a b (and-right two (eqb a b) e)) in
-      pairing-more (map keyOf l) i (keys-sorted l asc) (f (and-left two (eqb a b) e)) (key-below l i (omega arith)) (pair-run (map keyOf l) i (key-below l (i + 1) h) (keys-same l i (i + 1) b a hb ha same) stop)
+-- what a sweep by pairs knows at i, where `two` says whether all before were pairs
+pub record Sweeping (l : List ℕ) (i : ℕ) (two : Bool) : Type 0 where
+  pub within : i ≤ length l
+  pub ended : i ≡ length l → l ≡ []
+  pub pairs : two ≡ true → Pairing (map keyOf l) i
+  pub others : two ≡ false → Twice (map keyOf l) → ⊥
 
-  pub pair-next : (c : ℕ) → c ≡ keyOf (getD l (i + 2) 0) → i + 2 < length l → ((two && eqb a b) && not (eqb b c)) ≡ true → Pairing (map keyOf l) (i + 2)
-  pair-next c hc h e =
-      let pair : (two && eqb a b) ≡ true = and-left (two && eqb a b) (not (eqb b c)) e in
-      let same : a ≡ b = eqb-true a b (and-right two (eqb a b) pair) in
-      pair-here (omega arith) pair (λ _. keys-differ l i (i + 2) c a hc ha (λ z. eqb-false b c (not-true (eqb b c) (and-right (two && eqb a b) (not (eqb b c)) e)) (sym same ∙ sym z)))
+pub sweeping-none : (l : List ℕ) → Sweeping l 0 true
+sweeping-none l = record { within = zero-le; ended = none l; pairs = λ _. pairing-none (map keyOf l); others = λ e. absurd (true≢false e) }
+  where
+    none : (l : List ℕ) → 0 ≡ length l → l ≡ []
+    none [] e = refl
+    none (x ∷ l) e = absurd (suc-ne-zero (length l) (sym e))
 
-  pub pair-last : i + 2 ≡ length l → (two && eqb a b) ≡ true → Twice (map keyOf l)
-  pair-last h e = twice-paired (map keyOf l) (i + 2) (keys-sorted l asc) (pair-here (omega arith) e (λ lt. absurd (past (rw length-map at lt)))) (key-above l (i + 2) (omega arith))
+module _ (l : List ℕ) (asc : Asc l) (i : ℕ) (two : Bool) (f : Sweeping l i two) (h : i < length l) where
+  -- a word whose edge has no other
+  lone-fails : two ≡ true → (i + 1 < length (map keyOf l) → getD (map keyOf l) (i + 1) 0 ≡ getD (map keyOf l) i 0 → ⊥) → Twice (map keyOf l) → ⊥
+  lone-fails e stop t =
+      let run : RunEnd (map keyOf l) i (i + 1) = record { above = omega arith; within = omega (arith, key-below l i h); same = same-one (map keyOf l) i; stop = stop } in
+      let fresh = f .pairs e 1 1 (le-refl 1) (λ b. never (b .1)) .fresh (key-below l i h) in
+      let one : count (getD (map keyOf l) i 0) (map keyOf l) ≡ 1 = run-count (map keyOf l) (keys-sorted l asc) i (i + 1) fresh run ∙ omega arith in
+      let both : count (getD (map keyOf l) i 0) (map keyOf l) ≡ 2 = t (getD (map keyOf l) i 0) (omega arith) in
+      omega arith
     where
-      past : i + 2 < length l → ⊥
+      never : 2 ≤ 1 → ⊥
+      never le = omega arith
+
+  last-fails : length l ≡ i + 1 → Twice (map keyOf l) → ⊥
+  last-fails e = cases two (λ y. lone-fails y (λ lt. absurd (past (rw length-map at lt)))) (λ n. f .others n)
+    where
+      past : i + 1 < length l → ⊥
       past lt = omega arith
+
+  module _ (a b : ℕ) (ha : a ≡ keyOf (getD l i 0)) (hb : b ≡ keyOf (getD l (i + 1) 0)) (h₁ : i + 1 < length l) where
+    pair-here : (two && eqb a b) ≡ true → (i + 2 < length (map keyOf l) → getD (map keyOf l) (i + 2) 0 ≡ getD (map keyOf l) i 0 → ⊥) → Pairing (map keyOf l) (i + 2)
+    pair-here e stop =
+        let same : b ≡ a = sym (eqb-true a b (and-right two (eqb a b) e)) in
+        pairing-more (map keyOf l) i (keys-sorted l asc) (f .pairs (and-left two (eqb a b) e)) (key-below l i h) (pair-run (map keyOf l) i (key-below l (i + 1) h₁) (keys-same l i (i + 1) b a hb ha same) stop)
+
+    pair-fails : (two && eqb a b) ≡ false → Twice (map keyOf l) → ⊥
+    pair-fails e = cases two (λ y. lone-fails y (λ _. keys-differ l i (i + 1) b a hb ha (λ z. eqb-false a b (sym (ap (λ (t : Bool). t && eqb a b) y) ∙ e) (sym z)))) (λ n. f .others n)
+
+    pub pair-last : i + 2 ≡ length l → ((two && eqb a b) ≡ true → Twice (map keyOf l)) × ((two && eqb a b) ≡ false → Twice (map keyOf l) → ⊥)
+    pair-last z = (
+      (λ e. twice-paired (map keyOf l) (i + 2) (keys-sorted l asc) (pair-here e (λ lt. absurd (past (rw length-map at lt)))) (key-above l (i + 2) (omega arith))),
+      pair-fails,
+    )
+      where
+        past : i + 2 < length l → ⊥
+        past lt = omega arith
+
+    pub pair-next : (c : ℕ) → c ≡ keyOf (getD l (i + 2) 0) → i + 2 < length l → Sweeping l (i + 2) ((two && eqb a b) && not (eqb b c))
+    pair-next c hc h₂ = record {
+      within = omega arith;
+      ended = λ e. absurd (short e);
+      pairs = λ e.
+          let pair : (two && eqb a b) ≡ true = and-left (two && eqb a b) (not (eqb b c)) e in
+          pair-here pair (λ _. keys-differ l i (i + 2) c a hc ha (λ z. eqb-false b c (not-true (eqb b c) (and-right (two && eqb a b) (not (eqb b c)) e)) (sym (eqb-true a b (and-right two (eqb a b) pair)) ∙ sym z)));
+      others = λ e. cases (two && eqb a b) (λ y. three y (not-false (eqb b c) (sym (ap (λ (t : Bool). t && not (eqb b c)) y) ∙ e))) pair-fails;
+    }
+      where
+        short : i + 2 ≡ length l → ⊥
+        short e = omega arith
+
+        three : (two && eqb a b) ≡ true → eqb b c ≡ true → Twice (map keyOf l) → ⊥
+        three y z t =
+            let same : getD (map keyOf l) (i + 2) 0 ≡ getD (map keyOf l) i 0 = keys-same l i (i + 2) c a hc ha (sym (eqb-true a b (and-right two (eqb a b) y) ∙ eqb-true b c z)) in
+            let many : 3 ≤ count (getD (map keyOf l) i 0) (map keyOf l) = stretch-count (getD (map keyOf l) i 0) 2 (map keyOf l) (keys-sorted l asc) i (i + 2) refl (key-below l (i + 2) h₂) refl same in
+            let both : count (getD (map keyOf l) i 0) (map keyOf l) ≡ 2 = t (getD (map keyOf l) i 0) (omega arith) in
+            omega arith
+
+-- a sweep that ends without a last pair: no words, or one more than pairs
+pub unpaired : (l : List ℕ) → Asc l → (i : ℕ) (two : Bool) → Sweeping l i two → length l ≤ i + 2 → (i + 2 ≡ length l → ⊥) → (eqb i (length l) ≡ true → Twice (map keyOf l)) × (eqb i (length l) ≡ false → Twice (map keyOf l) → ⊥)
+unpaired l asc i two f h n = (
+  (λ e k some. absurd (none k (rw (f .ended (eqb-true i (length l) e)) at some))),
+  (λ e. last-fails l asc i two f (below (eqb-false i (length l) e)) (next (eqb-false i (length l) e))),
+)
+  where
+    none : (k : ℕ) → 1 ≤ count k [] → ⊥
+    none k le = omega (arith, count-nil k)
+
+    below : (i ≡ length l → ⊥) → i < length l
+    below d = omega (arith, f .within)
+
+    next : (i ≡ length l → ⊥) → length l ≡ i + 1
+    next d = omega (arith, f .within)
