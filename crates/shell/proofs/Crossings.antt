@@ -117,47 +117,34 @@ outOf v w = nodeOf (1 + dirOf v) w
 abbrev pub innOf : ℕ → ℕ → ℕ
 innOf v w = nodeOf (3 - (1 + dirOf v)) w
 
--- a word's step starts at one end of its edge, and ends at the other
-dir-is : (w : ℕ) → (dirOf w ≡ 0) ⊎ (dirOf w ≡ 1)
-dir-is w = by-cases (ℕ-discrete (w % 2) 0) (λ q. inl q) (λ n. inr (omega arith))
+-- the step of a word of direction d starts at one end of its edge, and ends at the other
+starts-at : (d v : ℕ) → d ≡ dirOf v → d < 2 → (stepOf v ≡ nodeOf (1 + d) v) × (nextOf v ≡ nodeOf (3 - (1 + d)) v)
+starts-at zero v e h = (pick-then (dirOf v) (stepOf v) (nextOf v) (sym e), pick-then (dirOf v) (nextOf v) (stepOf v) (sym e))
+starts-at (suc zero) v e h = (pick-else (dirOf v) (nextOf v) (stepOf v) (λ z. omega arith), pick-else (dirOf v) (stepOf v) (nextOf v) (λ z. omega arith))
+starts-at (suc (suc d)) v e h = absurd (omega arith)
 
--- of the two ends of an edge one has the start of a word's step, the other its end
-pub record Side (v h : ℕ) : Type 0 where
-  pub side : ((h ≡ 1 + dirOf v) × (nodeOf h v ≡ stepOf v)) ⊎ ((h ≡ 3 - (1 + dirOf v)) × (nodeOf h v ≡ nextOf v))
+dir-small : (v : ℕ) → dirOf v < 2
+dir-small v = omega arith
 
-side-low : (v : ℕ) → Side v 1
-side-low v = go (dir-is v)
-  where
-    go : (dirOf v ≡ 0) ⊎ (dirOf v ≡ 1) → Side v 1
-    go (inl e) = record { side = inl (omega arith, sym (pick-then (dirOf v) (stepOf v) (nextOf v) e)) }
-    go (inr e) = record { side = inr (omega arith, sym (pick-else (dirOf v) (stepOf v) (nextOf v) (λ z. omega arith))) }
+step-node : (v : ℕ) → stepOf v ≡ outOf v v
+step-node v = starts-at (dirOf v) v refl (dir-small v) .0
 
-side-high : (v : ℕ) → Side v 2
-side-high v = go (dir-is v)
-  where
-    go : (dirOf v ≡ 0) ⊎ (dirOf v ≡ 1) → Side v 2
-    go (inl e) = record { side = inr (omega arith, sym (pick-then (dirOf v) (nextOf v) (stepOf v) e)) }
-    go (inr e) = record { side = inl (omega arith, sym (pick-else (dirOf v) (nextOf v) (stepOf v) (λ z. omega arith))) }
+next-node : (v : ℕ) → nextOf v ≡ innOf v v
+next-node v = starts-at (dirOf v) v refl (dir-small v) .1
 
-step-node : (v : ℕ) → (dirOf v ≡ 0) ⊎ (dirOf v ≡ 1) → (stepOf v ≡ nodeOf (1 + dirOf v) v) × (((1 + dirOf v) ≡ 1) ⊎ ((1 + dirOf v) ≡ 2))
-step-node v (inl e) = (pick-then (dirOf v) (stepOf v) (nextOf v) e ∙ ap (λ (h : ℕ). nodeOf h v) (one e), inl (sym (one e)))
-  where
-    one : dirOf v ≡ 0 → 1 ≡ 1 + dirOf v
-    one e = omega arith
-step-node v (inr e) = (pick-else (dirOf v) (nextOf v) (stepOf v) (λ z. omega arith) ∙ ap (λ (h : ℕ). nodeOf h v) (two e), inr (sym (two e)))
-  where
-    two : dirOf v ≡ 1 → 2 ≡ 1 + dirOf v
-    two e = omega arith
+-- the ends are 1 and 2
+abbrev End : ℕ → Type 0
+End h = (h ≡ 1) ⊎ (h ≡ 2)
 
-next-node : (v : ℕ) → (dirOf v ≡ 0) ⊎ (dirOf v ≡ 1) → (nextOf v ≡ nodeOf (3 - (1 + dirOf v)) v) × (((3 - (1 + dirOf v)) ≡ 1) ⊎ ((3 - (1 + dirOf v)) ≡ 2))
-next-node v (inl e) = (pick-then (dirOf v) (nextOf v) (stepOf v) e ∙ ap (λ (h : ℕ). nodeOf h v) (two e), inr (sym (two e)))
-  where
-    two : dirOf v ≡ 0 → 2 ≡ 3 - (1 + dirOf v)
-    two e = omega arith
-next-node v (inr e) = (pick-else (dirOf v) (stepOf v) (nextOf v) (λ z. omega arith) ∙ ap (λ (h : ℕ). nodeOf h v) (one e), inl (sym (one e)))
-  where
-    one : dirOf v ≡ 1 → 1 ≡ 3 - (1 + dirOf v)
-    one e = omega arith
+out-end : (v : ℕ) → End (1 + dirOf v)
+out-end v = by-cases (ℕ-discrete (dirOf v) 0) (λ e. inl (omega arith)) (λ n. inr (omega (arith, dir-small v)))
+
+inn-end : (v : ℕ) → End (3 - (1 + dirOf v))
+inn-end v = by-cases (ℕ-discrete (dirOf v) 0) (λ e. inr (omega arith)) (λ n. inl (omega (arith, dir-small v)))
+
+side : (h v : ℕ) → End h → (h ≡ 1 + dirOf v) ⊎ (h ≡ 3 - (1 + dirOf v))
+side h v (inl a) = by-cases (ℕ-discrete (dirOf v) 0) (λ e. inl (omega arith)) (λ n. inr (omega (arith, dir-small v)))
+side h v (inr a) = by-cases (ℕ-discrete (dirOf v) 0) (λ e. inr (omega arith)) (λ n. inl (omega (arith, dir-small v)))
 
 module _ (l : List ℕ) where
   -- a word and the other of its pair are joined, or one
@@ -167,37 +154,37 @@ module _ (l : List ℕ) where
       odd : k + 1 ≡ i → (i % 2 ≡ 0 → ⊥) → Joined l g (g (getD l i 0)) (g (getD l k 0))
       odd e n = record { at = k; even = omega arith; within = omega arith; ends = inr (ap (λ (x : ℕ). g (getD l x 0)) e, refl) }
 
-  joins-at : (h p q : ℕ) → (h ≡ 1) ⊎ (h ≡ 2) → Joined l (nodeOf h) p q → Joins 1 2 l p q
+  joins-at : (h p q : ℕ) → End h → Joined l (nodeOf h) p q → Joins 1 2 l p q
   joins-at h p q (inl e) j = inl (subst (λ (x : ℕ). Joined l (nodeOf x) p q) e j)
   joins-at h p q (inr e) j = inr (subst (λ (x : ℕ). Joined l (nodeOf x) p q) e j)
 
   -- what a word writes is joined
-  noted-joins : (h p q i k : ℕ) → i < length l → Mate (length l) i k → (h ≡ 1) ⊎ (h ≡ 2) → nodeOf h (getD l i 0) ≡ p → nodeOf h (getD l k 0) ≡ q → (p ≡ q) ⊎ Joins 1 2 l p q
-  noted-joins h p q i k lt m side a b = ⊎-elim (λ (e : i ≡ k). inl (sym a ∙ (ap (λ (x : ℕ). nodeOf h (getD l x 0)) e ∙ b))) (λ (j : Joined l (nodeOf h) (nodeOf h (getD l i 0)) (nodeOf h (getD l k 0))). inr (joins-at h p q side (rw (a, b) at j))) (mate-joined (nodeOf h) i k lt m)
+  noted-joins : (h p q i k : ℕ) → i < length l → Mate (length l) i k → End h → nodeOf h (getD l i 0) ≡ p → nodeOf h (getD l k 0) ≡ q → (p ≡ q) ⊎ Joins 1 2 l p q
+  noted-joins h p q i k lt m z a b = ⊎-elim (λ (e : i ≡ k). inl (sym a ∙ (ap (λ (x : ℕ). nodeOf h (getD l x 0)) e ∙ b))) (λ (j : Joined l (nodeOf h) (nodeOf h (getD l i 0)) (nodeOf h (getD l k 0))). inr (joins-at h p q z (rw (a, b) at j))) (mate-joined (nodeOf h) i k lt m)
 
   module _ (out inn : List ℕ) (i : ℕ) (a : Noting stepOf outOf l out i) (b : Noting nextOf innOf l inn i) (ge : length l ≤ i) where
     sound : (p q : ℕ) → p < 1024 → Links out inn p q → (p ≡ q) ⊎ Joins 1 2 l p q
-    sound p q h (inl e) = ⊎-elim (λ (z : p ≡ q). inl z) (λ (w : Noted stepOf outOf l p q). let s = step-node (getD l (w .at) 0) (dir-is (getD l (w .at) 0)) in noted-joins (1 + dirOf (getD l (w .at) 0)) p q (w .at) (w .to) (w .within) (w .mate) (s .1) (sym (s .0) ∙ w .from) (w .ends)) (a .sound p q h e)
-    sound p q h (inr e) = ⊎-elim (λ (z : p ≡ q). inl z) (λ (w : Noted nextOf innOf l p q). let s = next-node (getD l (w .at) 0) (dir-is (getD l (w .at) 0)) in noted-joins (3 - (1 + dirOf (getD l (w .at) 0))) p q (w .at) (w .to) (w .within) (w .mate) (s .1) (sym (s .0) ∙ w .from) (w .ends)) (b .sound p q h e)
+    sound p q h (inl e) = ⊎-elim (λ (z : p ≡ q). inl z) (λ (w : Noted stepOf outOf l p q). let v = getD l (w .at) 0 in noted-joins (1 + dirOf v) p q (w .at) (w .to) (w .within) (w .mate) (out-end v) (sym (step-node v) ∙ w .from) (w .ends)) (a .sound p q h e)
+    sound p q h (inr e) = ⊎-elim (λ (z : p ≡ q). inl z) (λ (w : Noted nextOf innOf l p q). let v = getD l (w .at) 0 in noted-joins (3 - (1 + dirOf v)) p q (w .at) (w .to) (w .within) (w .mate) (inn-end v) (sym (next-node v) ∙ w .from) (w .ends)) (b .sound p q h e)
 
     module _ (f : Lone stepOf l) (g : Lone nextOf l) where
-      across : (h j k : ℕ) → j < length l → Mate (length l) j k → Side (getD l j 0) h → Links out inn (nodeOf h (getD l j 0)) (nodeOf h (getD l k 0))
-      across h j k lt m s = go (s .side)
+      across : (h j k : ℕ) → j < length l → Mate (length l) j k → End h → Links out inn (nodeOf h (getD l j 0)) (nodeOf h (getD l k 0))
+      across h j k lt m z = go (side h (getD l j 0) z)
         where
-          go : ((h ≡ 1 + dirOf (getD l j 0)) × (nodeOf h (getD l j 0) ≡ stepOf (getD l j 0))) ⊎ ((h ≡ 3 - (1 + dirOf (getD l j 0))) × (nodeOf h (getD l j 0) ≡ nextOf (getD l j 0))) → Links out inn (nodeOf h (getD l j 0)) (nodeOf h (getD l k 0))
-          go (inl w) = inl (ap (λ (x : ℕ). getD out x 0) (w .1) ∙ (a .whole f j k (omega arith) lt m ∙ ap (λ (x : ℕ). nodeOf x (getD l k 0)) (sym (w .0))))
-          go (inr w) = inr (ap (λ (x : ℕ). getD inn x 0) (w .1) ∙ (b .whole g j k (omega arith) lt m ∙ ap (λ (x : ℕ). nodeOf x (getD l k 0)) (sym (w .0))))
+          go : (h ≡ 1 + dirOf (getD l j 0)) ⊎ (h ≡ 3 - (1 + dirOf (getD l j 0))) → Links out inn (nodeOf h (getD l j 0)) (nodeOf h (getD l k 0))
+          go (inl e) = inl (ap (λ (x : ℕ). getD out x 0) (ap (λ (x : ℕ). nodeOf x (getD l j 0)) e ∙ sym (step-node (getD l j 0))) ∙ (a .whole f j k (omega arith) lt m ∙ ap (λ (x : ℕ). nodeOf x (getD l k 0)) (sym e)))
+          go (inr e) = inr (ap (λ (x : ℕ). getD inn x 0) (ap (λ (x : ℕ). nodeOf x (getD l j 0)) e ∙ sym (next-node (getD l j 0))) ∙ (b .whole g j k (omega arith) lt m ∙ ap (λ (x : ℕ). nodeOf x (getD l k 0)) (sym e)))
 
-      joined-links : (h p q : ℕ) → ((v : ℕ) → Side v h) → Joined l (nodeOf h) p q → Links out inn p q
+      joined-links : (h p q : ℕ) → End h → Joined l (nodeOf h) p q → Links out inn p q
       joined-links h p q s j = go (j .ends)
         where
           go : ((nodeOf h (getD l (j .at) 0) ≡ p) × (nodeOf h (getD l (j .at + 1) 0) ≡ q)) ⊎ ((nodeOf h (getD l (j .at + 1) 0) ≡ p) × (nodeOf h (getD l (j .at) 0) ≡ q)) → Links out inn p q
-          go (inl w) = rw (w .0, w .1) at (across h (j .at) (j .at + 1) (omega (arith, j .within)) (mate-up (length l) (j .at) (j .even) (j .within)) (s (getD l (j .at) 0)))
-          go (inr w) = rw (w .0, w .1) at (across h (j .at + 1) (j .at) (j .within) (mate-down (length l) (j .at) (j .even) (j .within)) (s (getD l (j .at + 1) 0)))
+          go (inl w) = rw (w .0, w .1) at (across h (j .at) (j .at + 1) (omega (arith, j .within)) (mate-up (length l) (j .at) (j .even) (j .within)) s)
+          go (inr w) = rw (w .0, w .1) at (across h (j .at + 1) (j .at) (j .within) (mate-down (length l) (j .at) (j .even) (j .within)) s)
 
       whole : (p q : ℕ) → Joins 1 2 l p q → Links out inn p q
-      whole p q (inl j) = joined-links 1 p q side-low j
-      whole p q (inr j) = joined-links 2 p q side-high j
+      whole p q (inl j) = joined-links 1 p q (inl refl) j
+      whole p q (inr j) = joined-links 2 p q (inr refl) j
 
     pub crossed : Crossed l out inn
     crossed = record { outs = a .nodes; inns = b .nodes; sound = sound; whole = whole }

@@ -10,7 +10,7 @@ use lib.ListN.{length, getD, set, length-set}
 use lib.Seq.{getD-set-same}
 use Rattle.shell.specs.Reach.{start}
 use Rattle.shell.specs.Table.{stepOf, polyOf}
-use Rattle.shell.specs.Marking.{Marks, Marked, Blank, Seeded, Pointed, Seeds, Cut, LeastBelow, Spread, Joined, LowestBare, LowestCut}
+use Rattle.shell.specs.Marking.{Marked, Blank, Seeded, Pointed, Seeds, Cut, LeastBelow, Spread, Joined, LowestBare, LowestCut}
 use Rattle.shell.proofs.Sweeps.{at-set, reach-map}
 
 -- what holds after i turns of `seeds`

@@ -163,14 +163,6 @@ module _ (R : ℕ → ℕ → Type 0) (m₀ m m₁ : List ℕ) (r r₁ : ℕ) (f
     closed = a .closed;
   }
 
-  -- a number that falls with each round but the last
-  pub flood-falls : (r ≡ 0 → ⊥) → zeros m₁ * 2 + r₁ < zeros m * 2 + r
-  flood-falls n = go (ℕ-discrete r₁ 0)
-    where
-      go : Dec (r₁ ≡ 0) → zeros m₁ * 2 + r₁ < zeros m * 2 + r
-      go (yes z) = omega (arith, a .fewer)
-      go (no z) = omega (arith, a .more z, a .flag)
-
 -- a round after which another may come
 pub flood-open : (R : ℕ → ℕ → Type 0) (m₀ m : List ℕ) (r : ℕ) → Flooding R m₀ m r → Flooding R m₀ m 1
 flood-open R m₀ m r f = record { marks = f .marks; grows = f .grows; sound = f .sound; closed = λ z. absurd (suc-ne-zero 0 z) }

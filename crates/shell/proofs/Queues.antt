@@ -1,5 +1,5 @@
 -- The marked polygons in the order in which they are found: what one more of them leaves, and that all are reached when each was taken.
-use Prim.Native.Nat.{ℕ, zero, suc, _+_, _%_, _≤_, _<_, zero-le, suc-le-suc}
+use Prim.Native.Nat.{ℕ, zero, suc, _+_, _≤_, _<_, zero-le, suc-le-suc}
 use native.Mathlib.Nat.{le-refl, not-suc-le-zero, suc-ne-zero}
 use native.Mathlib.Decide.{ℕ-discrete, decLt}
 use native.Mathlib.Omega.{arith}
@@ -10,7 +10,7 @@ use lib.ListN.{length, getD, set, length-set}
 use lib.Seq.{getD-set-same}
 use Rattle.shell.specs.Reach.{Reach, start, step}
 use Rattle.shell.specs.Table.{polyOf}
-use Rattle.shell.specs.Marking.{Marked, Marks, zeros, Joined, Mate, Seeded, Last, Listed, Queue, Widened, Flooded}
+use Rattle.shell.specs.Marking.{Marked, zeros, Joined, Mate, Seeded, Last, Queue, Widened, Flooded}
 use Rattle.shell.proofs.Sweeps.{at-set, zeros-lt}
 use Rattle.shell.proofs.Crossings.{mate-up, mate-down, mate-one, mate-joined}
 

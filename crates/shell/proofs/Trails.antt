@@ -9,7 +9,7 @@ use lib.ListN.{length, getD, set, length-set, List·getD-eq-default}
 use lib.Seq.{getD-set-same}
 use Rattle.shell.specs.Reach.{Reach, start, step}
 use Rattle.shell.specs.Table.{stepOf, nextOf}
-use Rattle.shell.specs.Marking.{Marked, Marks, zeros, Nodes, Links, Even, Lone, Crossed, Onward, Walked, Traced, Joined, Joins, Flooded}
+use Rattle.shell.specs.Marking.{Marked, Marks, zeros, Nodes, Links, Even, Lone, Crossed, Onward, Walked, Traced, Joins, Flooded}
 use Rattle.shell.proofs.Sweeps.{at-set, zeros-lt, reach-map}
 
 -- a mark stands below 1,024

@@ -2,7 +2,6 @@
 use Rattle.shell.proofs.Crossings.{selves-more, selves-done}
 use lib.ListN.{length, getD}
 use borrow.Author.Needs.{needs}
-use native.Mathlib.Omega.{arith}
 use native.Mathlib.Nat.{not-suc-le-zero}
 use mathlib.Core.Path.{_≡_}
 use Prim.Native.Nat.{ℕ, _-_, _<_}

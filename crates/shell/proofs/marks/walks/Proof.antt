@@ -3,7 +3,6 @@ use Rattle.shell.proofs.Trails.{Tracing, trace-none, trace-skip, trace-
 use Rattle.shell.specs.Marking.{Links}
 use mathlib.Core.Path.{sym}
 use borrow.Author.Needs.{needs}
-use native.Mathlib.Omega.{arith}
 use mathlib.Core.Logic.{inl, inr, ⊎-elim}
 use Prim.Native.Nat.{_-_}
 use Rattle.shell.proofs.marks.walks.Statement.{statement}
