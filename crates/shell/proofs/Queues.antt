@@ -61,6 +61,13 @@ module _ (m f : List ℕ) (t q : ℕ) (s : Queue m f t) where
     listed : (p : ℕ) → Marked (set m q 1) p → (k : ℕ) × (k < t + 1) × (getD (set f t q) k 0 ≡ p)
     listed p h = ⊎-elim (λ (w : (p ≡ q) × Marked (set m q 1) p). (t, omega arith, placed ∙ sym (w .0))) (λ (w : (p ≢ q) × (getD (set m q 1) p 0 ≡ getD m p 0)). let k = s .listed p (sym (w .1) ∙ h) in (k .0, omega (arith, k .1), same (k .0) (k .1) ∙ k .2)) (after p)
 
+    -- q had no mark, and all that stand before it have one
+    once : (j k : ℕ) → j < k → k < t + 1 → getD (set f t q) j 0 ≡ getD (set f t q) k 0 → ⊥
+    once j k lt h e = by-cases (ℕ-discrete k t) (λ d. clash (getD f j 0) (sym (same j (omega arith)) ∙ (e ∙ (ap (λ (y : ℕ). getD (set f t q) y 0) d ∙ placed))) (s .held j (omega arith) .0)) (λ n. s .once j k lt (omega arith) (sym (same j (omega arith)) ∙ (e ∙ same k (omega arith))))
+      where
+        clash : (x : ℕ) → x ≡ q → Marked m x → ⊥
+        clash x d g = omega (arith, subst (λ (y : ℕ). Marked m y) d g)
+
     pub note-new : Widened (λ e. e ≡ q) m f t (set m q 1) (set f t q) (t + 1)
     note-new = record {
       queue = record {
@@ -72,6 +79,7 @@ module _ (m f : List ℕ) (t q : ℕ) (s : Queue m f t) where
         room = omega (arith, fell, s .room);
         held = held;
         listed = listed;
+        once = once;
       };
       grows = stays;
       kept = same;
@@ -180,6 +188,7 @@ take-none R m f s e z = record {
     room = omega (arith, zeros-short m 0 (s .first), s .marks .size);
     held = λ k lt. let q : getD f k 0 ≡ 0 = ap (λ (x : ℕ). getD f x 0) (first k lt) ∙ z in (subst (λ (x : ℕ). Marked m x) (sym q) (s .first), omega arith);
     listed = λ p h. (0, le-refl 1, z ∙ sym (s .only p h));
+    once = λ j k lt h. absurd (lone j k lt h);
   };
   grows = λ p h. h;
   sound = λ p h. start h;
@@ -189,6 +198,9 @@ take-none R m f s e z = record {
   where
     first : (k : ℕ) → k < 1 → k ≡ 0
     first k lt = omega arith
+
+    lone : (j k : ℕ) → j < k → k < 1 → ⊥
+    lone j k a b = omega arith
 
 module _ (R : ℕ → ℕ → Type 0) (m₀ m f : List ℕ) (from to : ℕ) (s : Taking R m₀ m f from to) where
   pub take-small : to ≤ 1024

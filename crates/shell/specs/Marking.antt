@@ -176,13 +176,14 @@ pub record Listed (l head chain : List ℕ) (i : ℕ) : Type 0 where
   pub heads : (p : ℕ) → p < 256 → Last l p i (getD head p 0)
   pub nexts : (k : ℕ) → k < i → Last l (polyOf (getD l k 0)) k (getD chain k 0)
 
--- the marked nodes, all below 256, are the first t of f
+-- the marked nodes, all below 256, are the first t of f, each once
 pub record Queue (m f : List ℕ) (t : ℕ) : Type 0 where
   pub marks : Marks m
   pub size : length f ≡ 1024
   pub room : t + zeros m ≤ 1024
   pub held : (k : ℕ) → k < t → Marked m (getD f k 0) × (getD f k 0 < 256)
   pub listed : (p : ℕ) → Marked m p → (k : ℕ) × (k < t) × (getD f k 0 ≡ p)
+  pub once : (j k : ℕ) → j < k → k < t → getD f j 0 ≡ getD f k 0 → ⊥
 
 -- the marks and their queue, with nodes S more
 pub record Widened (S : ℕ → Type 0) (m f : List ℕ) (t : ℕ) (m′ f′ : List ℕ) (t′ : ℕ) : Type 0 where

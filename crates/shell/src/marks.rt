@@ -119,7 +119,8 @@ fn next_of(w: u64) -> usize
     (w / 2 % 1024) as usize
 }
 
-// Marks corner after corner, from one to the next that it is not come from, up to one that has a mark. Each turn takes a corner that had none.
+// Marks corner after corner, from each to the one that it was not come from, up to one that has a mark. Each turn takes a corner that had
+// none.
 fn walk(out: &[u16; 1024], inn: &[u16; 1024], marks: &mut [u8; 1024], from: usize, to: usize)
     requires { ⌜ Nodes (now out) × Nodes (now inn) × Marks (now marks) × Marked (now marks) from × Links (now out) (now inn) from to × (to < 1024) ⌝ }
     ensures { λ r. ⌜ Walked (Links (now (out .entry)) (now (inn .entry))) to (now (marks .entry)) (now (marks .exit)) ⌝ }
@@ -157,7 +158,7 @@ fn walks(out: &[u16; 1024], inn: &[u16; 1024], marks: &mut [u8; 1024])
 }
 
 // Marks whatever corner the marks reach across the pairs, where each corner has one pair of its own step and one of the step before.
-// Twice 1,024 walks begin at most, and each of their turns marks a corner that had no mark.
+// Whatever the numbering, the tables take one turn an entry and one a word, and no corner begins more than two walks or is taken twice.
 fn trace(words: &[u64], marks: &mut [u8; 1024])
     requires { ⌜ Marks (now marks) ⌝ }
     ensures { λ r. ⌜ Marks (now (marks .exit)) × (Lone stepOf (now (words .entry)) → Lone nextOf (now (words .entry)) → Flooded (Joins 1 2 (now (words .entry))) (now (marks .entry)) (now (marks .exit))) ⌝ }
@@ -170,7 +171,8 @@ fn trace(words: &[u64], marks: &mut [u8; 1024])
     walks(&out, &inn, marks);
 }
 
-// Marks whatever corner the marks reach across the pairs: four sweeps at most, which end most buildings, and walks for the rest.
+// Marks whatever corner the marks reach across the pairs: four sweeps at most, which are the quickest where they end, and walks for the
+// rest.
 fn flood(words: &[u64], marks: &mut [u8; 1024])
     requires { ⌜ Marks (now marks) ⌝ }
     ensures { λ r. ⌜ Marks (now (marks .exit)) × (Lone stepOf (now (words .entry)) → Lone nextOf (now (words .entry)) → Flooded (Joins 1 2 (now (words .entry))) (now (marks .entry)) (now (marks .exit))) ⌝ }
@@ -186,8 +188,8 @@ fn flood(words: &[u64], marks: &mut [u8; 1024])
     trace(words, marks);
 }
 
-// Marks what polygons the marks reach across the pairs, by four sweeps at most, which end most buildings: 1 where a sweep marks none, or
-// all of the first n are marked.
+// Marks what polygons the marks reach across the pairs, by four sweeps at most, which are the quickest where they end: 1 where a sweep
+// marks none, or all of the first n are marked.
 fn spread(words: &[u64], n: usize, marks: &mut [u8; 1024]) -> usize
     requires { ⌜ Marks (now marks) × (n ≤ 1024) ⌝ }
     ensures { λ r. ⌜ Marks (now (marks .exit)) × (r ≡ 1 → Spread (Joined (now (words .entry)) polyOf) n (now (marks .entry)) (now (marks .exit))) ⌝ }
@@ -264,7 +266,7 @@ fn visit(
     t
 }
 
-// Takes each polygon that is found once, in the order in which they are found, at most 1,024 turns.
+// Takes each polygon once, in the order in which they are found, and so each word once, whatever the numbering.
 fn take_all(words: &[u64], head: &[u16; 256], chain: &[u16; 1024], marks: &mut [u8; 1024])
     requires { ⌜ (length (now words) ≤ 1024) × Listed (now words) (now head) (now chain) (length (now words)) × Seeded (now marks) ⌝ }
     ensures { λ r. ⌜ Flooded (Joined (now (words .entry)) polyOf) (now (marks .entry)) (now (marks .exit)) ⌝ }
