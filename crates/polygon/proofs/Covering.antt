@@ -93,8 +93,8 @@ ending-more {ps} {high} {room} {i} f l x e =
       each = copy-more 0 (λ j. ending high (getD ps j 0) (getD ps (j + 1) 0)) room i (omega (arith, f .all)) (f .each) x e;
     }
 
-pub ending-end : {ps : List ℕ} {high : Bool} {room : List ℕ} {i : ℕ} → Ending ps high room i → 144 ≤ i → Endings ps high room
-ending-end f e = record { all = f .all; each = λ j h. f .each j (omega arith) }
+pub ending-end : {ps : List ℕ} {high : Bool} {room : List ℕ} {i : ℕ} → Ending ps high room i → (m : ℕ) → m ≤ i → Endings ps m high room
+ending-end f m e = record { all = f .all; each = λ j h. f .each j (omega arith) }
 
 -- ---- an end of two is beyond both
 pub beyond-left : (high : Bool) (p q : ℕ) → Beyond high (ending high p q) p
@@ -163,9 +163,9 @@ pub blocking-end : {m : ℕ} {high : Bool} {old room : List ℕ} {b : ℕ} → B
 blocking-end f e = record { all = f .all; same = f .same; each = λ i h. f .each i (omega arith) }
 
 -- ---- both ends on one axis
-module _ {us : List ℤ} {m : ℕ} {ps ls hs ls' hs' : List ℕ} (few : m ≤ 128) (line : Line us m) (s : Steps us m ps) (p : Endings ps false ls) (q : Endings ps true hs) (b : Blocks m false ls ls') (c : Blocks m true hs hs') where
-  ends-are : (high : Bool) (room room' : List ℕ) → Endings ps high room → Blocks m high room room' → (i : ℕ) → i < m → getD room' i 0 ≡ ending high (step (getD us i (pos 0))) (step (getD us (i + 1) (pos 0)))
-  ends-are high room room' e g i h = g .same i (omega arith) ∙ e .each i (omega arith) ∙ ap₂ (ending high) (s .each i (omega arith)) (s .each (i + 1) (omega arith))
+module _ {us : List ℤ} {m : ℕ} {ps ls hs ls' hs' : List ℕ} (few : m ≤ 128) (line : Line us m) (s : Steps us m ps) (p : Endings ps m false ls) (q : Endings ps m true hs) (b : Blocks m false ls ls') (c : Blocks m true hs hs') where
+  ends-are : (high : Bool) (room room' : List ℕ) → Endings ps m high room → Blocks m high room room' → (i : ℕ) → i < m → getD room' i 0 ≡ ending high (step (getD us i (pos 0))) (step (getD us (i + 1) (pos 0)))
+  ends-are high room room' e g i h = g .same i (omega arith) ∙ e .each i h ∙ ap₂ (ending high) (s .each i (omega arith)) (s .each (i + 1) (omega arith))
 
   pub sides-are : Sides us m ls' hs'
   sides-are =

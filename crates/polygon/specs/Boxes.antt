@@ -29,10 +29,10 @@ pub record Steps (us : List ℤ) (m : ℕ) (ps : List ℕ) : Type 0 where
   pub all : length ps ≡ 176
   pub each : (i : ℕ) → i ≤ m → getD ps i 0 ≡ step (getD us i (pos 0))
 
--- room that holds the largest of each two numbers that follow one another, or the least
-pub record Endings (ps : List ℕ) (high : Bool) (room : List ℕ) : Type 0 where
+-- room that holds the largest of each two numbers that follow one another, m times, or the least
+pub record Endings (ps : List ℕ) (m : ℕ) (high : Bool) (room : List ℕ) : Type 0 where
   pub all : length room ≡ 176
-  pub each : (i : ℕ) → i < 144 → getD room i 0 ≡ ending high (getD ps i 0) (getD ps (i + 1) 0)
+  pub each : (i : ℕ) → i < m → getD room i 0 ≡ ending high (getD ps i 0) (getD ps (i + 1) 0)
 
 -- x is not below y, or not above
 pub record Beyond (high : Bool) (x y : ℕ) : Type 0 where

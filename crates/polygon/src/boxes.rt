@@ -44,13 +44,14 @@ fn ending(p: u16, q: u16, high: bool) -> u16
     if q < p { q } else { p }
 }
 
-// The largest number of each edge on one axis, or the least, into lent room; as many turns for every ring, so that eight are made at once.
-fn endings(ps: &[u16], high: bool, room: &mut [u16])
-    requires { ⌜ (length (now ps) ≡ 176) × (length (now room) ≡ 176) ⌝ }
-    ensures { λ _. ⌜ Endings (now (ps .entry)) high (now (room .exit)) ⌝ }
+// The largest number of each of m edges on one axis, or the least, into lent room; by whole eights, each of which is made at once.
+fn endings(ps: &[u16], m: usize, high: bool, room: &mut [u16])
+    requires { ⌜ (m ≤ 128) × (length (now ps) ≡ 176) × (length (now room) ≡ 176) ⌝ }
+    ensures { λ _. ⌜ Endings (now (ps .entry)) m high (now (room .exit)) ⌝ }
 {
+    let n = 8 * (m / 8) + 8;
     let mut i: usize = 0;
-    while i < 144 {
+    while i < n {
         let next = i + 1;
         let x = ending(ps[i], ps[next], high);
         room[i] = x;
@@ -96,8 +97,8 @@ fn sides(us: &[i64], m: usize, ls: &mut [u16], hs: &mut [u16])
     let last = step(us[m]);
     let mut ps: [u16; 176] = [last; 176];
     steps(us, m, &mut ps);
-    endings(&ps, false, ls);
-    endings(&ps, true, hs);
+    endings(&ps, m, false, ls);
+    endings(&ps, m, true, hs);
     blocks(m, false, ls);
     blocks(m, true, hs);
 }
@@ -262,6 +263,9 @@ fn next_near(
     requires { ⌜ (m ≤ 128) × (i < m) × (e ≤ m) ⌝ }
     ensures { λ r. ⌜ (e ≤ r) × (r ≤ m) × Parted (now (lus .entry)) (now (hus .entry)) (now (lvs .entry)) (now (hvs .entry)) i e r true ⌝ }
 {
+    if e == m {
+        return m;
+    }
     let b = e / 8;
     let c = near(lus, hus, lvs, hvs, m, i, b);
     let j = 8 * c;

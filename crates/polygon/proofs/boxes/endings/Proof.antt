@@ -7,13 +7,19 @@ use Rattle.polygon.proofs.boxes.endings.Statement.{statement}
 use Rattle.polygon.proofs.boxes.endings.Tie as tie
 
 abbrev Inv-loop : tie.InvT-loop
-Inv-loop ps high room₀ i₀ room i = Ending ps high room i
+Inv-loop ps m high room₀ n i₀ room i = Ending ps high room i
 
 abbrev μ-loop : tie.MeasureT-loop
-μ-loop ps high room₀ i₀ room i = 144 - i
+μ-loop ps m high room₀ n i₀ room i = n - i
+
+mul-n : tie.Need-mul-n Inv-loop μ-loop
+mul-n c = search needs
+
+add-n : tie.Need-add-n Inv-loop μ-loop
+add-n c = search needs
 
 loop-holds : tie.Need-loop-holds Inv-loop μ-loop
-loop-holds c = ending-start _ _ _ (c .before .before .pre .1)
+loop-holds c = ending-start _ _ _ (c .before .before .pre .2)
 
 add-next : tie.Need-add-next Inv-loop μ-loop
 add-next c = search needs
@@ -43,13 +49,13 @@ loop-less : tie.Need-loop-less Inv-loop μ-loop
 loop-less c = search needs
 
 loop-again : tie.Need-loop-again Inv-loop μ-loop
-loop-again c = ending-more (c .before .before .before .before .loop .inv) (c .before .before .before .loop-test .taken) _ (c .ending .ensures)
+loop-again c = ending-more (c .before .before .before .before .loop .inv) (omega arith) _ (c .ending .ensures)
 
 same-length : tie.Need-same-length Inv-loop μ-loop
-same-length c = let a = c .before .before .before .before .pre .1 in omega (arith, c .before .loop .inv .all)
+same-length c = let a = c .before .before .before .before .pre .2 in omega (arith, c .before .loop .inv .all)
 
 returns : tie.Need-returns Inv-loop μ-loop
-returns c = ending-end (c .before .loop .inv) (c .loop-test .left)
+returns c = ending-end (c .before .loop .inv) _ (omega arith)
 
 pub endings-spec : {M : Type 1} → statement M
 endings-spec =
@@ -57,6 +63,8 @@ endings-spec =
     (tie.spec
     Inv-loop
     μ-loop
+    mul-n
+    add-n
     loop-holds
     add-next
     mul-ending
