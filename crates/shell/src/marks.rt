@@ -171,14 +171,14 @@ fn trace(words: &[u64], marks: &mut [u8; 1024])
     walks(&out, &inn, marks);
 }
 
-// Marks whatever corner the marks reach across the pairs: four sweeps at most, which are the quickest where they end, and walks for the
+// Marks whatever corner the marks reach across the pairs: eight sweeps at most, which are the quickest where they end, and walks for the
 // rest.
 fn flood(words: &[u64], marks: &mut [u8; 1024])
     requires { ⌜ Marks (now marks) ⌝ }
     ensures { λ r. ⌜ Marks (now (marks .exit)) × (Lone stepOf (now (words .entry)) → Lone nextOf (now (words .entry)) → Flooded (Joins 1 2 (now (words .entry))) (now (marks .entry)) (now (marks .exit))) ⌝ }
 {
     let mut i: usize = 0;
-    while i < 4 {
+    while i < 8 {
         let changed = sweep_ends(words, marks);
         if changed == 0 {
             return;
@@ -188,14 +188,14 @@ fn flood(words: &[u64], marks: &mut [u8; 1024])
     trace(words, marks);
 }
 
-// Marks what polygons the marks reach across the pairs, by four sweeps at most, which are the quickest where they end: 1 where a sweep
+// Marks what polygons the marks reach across the pairs, by eight sweeps at most, which are the quickest where they end: 1 where a sweep
 // marks none, or all of the first n are marked.
 fn spread(words: &[u64], n: usize, marks: &mut [u8; 1024]) -> usize
     requires { ⌜ Marks (now marks) × (n ≤ 1024) ⌝ }
     ensures { λ r. ⌜ Marks (now (marks .exit)) × (r ≡ 1 → Spread (Joined (now (words .entry)) polyOf) n (now (marks .entry)) (now (marks .exit))) ⌝ }
 {
     let mut i: usize = 0;
-    while i < 4 {
+    while i < 8 {
         let changed = sweep(words, 0, marks);
         if lowest_bare(marks, n) == n {
             return 1;
