@@ -10,4 +10,5 @@ mod Filled
 mod Covering
 mod Nearness
 mod Around
+mod Siding
 mod Order

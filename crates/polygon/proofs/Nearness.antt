@@ -1,5 +1,5 @@
 -- Boxes that are parted: what they tell of two edges, of a block of edges, and of a row of edges.
-use Prim.Native.Nat.{ℕ, zero, suc, _+_, _*_, _/_, _-_, _≤_, _<_}
+use Prim.Native.Nat.{ℕ, _+_, _*_, _/_, _≤_, _<_}
 use native.Mathlib.Omega.{arith}
 use mathlib.Core.Path.{_≡_, refl, sym, ap, ap₂, _∙_, subst}
 use mathlib.Core.Bool.{Bool, true, false, not, _&&_, _||_}
@@ -14,11 +14,11 @@ use Rattle.whole.specs.Lists.{any}
 use Rattle.polygon.specs.Plane.{overlap}
 use Rattle.polygon.specs.Ring.{forbidden}
 use Rattle.polygon.specs.Leaves.{least, most, edgeAt}
-use Rattle.polygon.specs.Boxes.{step, Covered, Sides, Boxes, parted, Parted, Apart}
+use Rattle.polygon.specs.Boxes.{step, Covered, Sides, Boxes, parted, Parted, Beside, Apart}
 use Rattle.whole.specs.Bools.{and-left, and-right}
 use Rattle.polygon.proofs.Stretches.{most-below, least-above, box-apart}
 use Rattle.polygon.proofs.Covering.{step-order}
-use Rattle.polygon.proofs.Pairs.{edges, share-apart, clash-other, row-next}
+use Rattle.polygon.proofs.Pairs.{edges, share-apart, share-beside, clash-other, row-over}
 
 -- ---- a test of two parts
 or-both : (a b c d : Bool) → (a ≡ true → c ≡ true) → (b ≡ true → d ≡ true) → (a || b) ≡ true → (c || d) ≡ true
@@ -50,25 +50,21 @@ module _ {us vs : List ℤ} {m : ℕ} {lus hus lvs hvs : List ℕ} (x : Boxes us
       sym (share-apart (edgeAt us vs i) (edgeAt us vs k) refl refl (or-both (parted lus hus i k) (parted lvs hvs i k) _ _ (parted-apart (x .on-u) i k (omega arith) b) (parted-apart (x .on-v) i k (omega arith) b) e)
       ∙ clash-other m i k (edgeAt us vs i) (edgeAt us vs k) (omega arith) (λ z. omega arith) (p .each k c))
 
-  -- ---- a row: a stretch of edges whose boxes are parted tells nothing
-  module _ {j e : ℕ} {r : Bool} (q : Parted lus hus lvs hvs i j e r) (t : r ≡ true) (a : i + 1 < j) where
-    abbrev rest-of : ℕ → Bool
-    rest-of n = any (forbidden m (i, edgeAt us vs i)) (drop n (edges us vs m))
+  pub beside-edges : {j : ℕ} {r : Bool} → Beside us vs i j r → r ≡ true → (k : ℕ) → i + 1 < k → k < m → k < end → j ≤ k → k < j + 8 → forbidden m (i, edgeAt us vs i) (k, edgeAt us vs k) ≡ false
+  beside-edges q t k a b c f g =
+      sym (share-beside (edgeAt us vs i) (edgeAt us vs k) refl refl refl (q .each t k f g)
+      ∙ clash-other m i k (edgeAt us vs i) (edgeAt us vs k) (omega arith) (λ z. omega arith) (p .each k c))
 
-    parted-some : (d : ℕ) → j + d ≤ e → j + d ≤ m → j + d ≤ end → rest-of j ≡ rest-of (j + d)
-    parted-some zero h l g = let z : j ≡ j + 0 = omega arith in ap rest-of z
-    parted-some (suc d) h l g =
-        let z : j + d + 1 ≡ j + suc d = omega arith in
-        parted-some d (omega arith) (omega arith) (omega arith) ∙ more ∙ ap rest-of z
-      where
-        more : rest-of (j + d) ≡ rest-of (j + d + 1)
-        more = sym (row-next us vs m (forbidden m (i, edgeAt us vs i)) (j + d) (omega arith) (parted-edges (j + d) (omega arith) (omega arith) (omega arith) (q .each t (j + d) (omega arith) (omega arith))))
+  -- ---- a row: a stretch of edges that are parted, or lie beside, tells nothing
+  pub parted-row : {j e : ℕ} {r : Bool} → Parted lus hus lvs hvs i j e r → r ≡ true → i + 1 < j → (n : ℕ) → j ≤ n → n ≤ m → n ≤ e → n ≤ end
+      → any (forbidden m (i, edgeAt us vs i)) (drop j (edges us vs m)) ≡ any (forbidden m (i, edgeAt us vs i)) (drop n (edges us vs m))
+  parted-row {j} q t a n b c d g =
+      row-over us vs m (forbidden m (i, edgeAt us vs i)) j n b c (λ k f h. parted-edges k (omega arith) (omega arith) (omega arith) (q .each t k f (omega arith)))
 
-    pub parted-row : (n : ℕ) → j ≤ n → n ≤ m → n ≤ e → n ≤ end
-        → any (forbidden m (i, edgeAt us vs i)) (drop j (edges us vs m)) ≡ any (forbidden m (i, edgeAt us vs i)) (drop n (edges us vs m))
-    parted-row n b c d g =
-        let z : j + (n - j) ≡ n = omega arith in
-        parted-some (n - j) (omega arith) (omega arith) (omega arith) ∙ ap rest-of z
+  pub beside-row : {j : ℕ} {r : Bool} → Beside us vs i j r → r ≡ true → i + 1 < j → (n : ℕ) → j ≤ n → n ≤ m → n ≤ j + 8 → n ≤ end
+      → any (forbidden m (i, edgeAt us vs i)) (drop j (edges us vs m)) ≡ any (forbidden m (i, edgeAt us vs i)) (drop n (edges us vs m))
+  beside-row {j} q t a n b c d g =
+      row-over us vs m (forbidden m (i, edgeAt us vs i)) j n b c (λ k f h. beside-edges q t k (omega arith) (omega arith) (omega arith) f (omega arith))
 
 -- ---- boxes one after another
 module _ {lus hus lvs hvs : List ℕ} {i : ℕ} where

@@ -1,5 +1,5 @@
 -- Check 05, pair of edges by pair of edges.
-use Prim.Native.Nat.{ℕ, zero, suc, _+_, _-_, _<_}
+use Prim.Native.Nat.{ℕ, zero, suc, _+_, _-_, _≤_, _<_}
 use native.Mathlib.Omega.{arith}
 use native.Mathlib.Numerals.{add-one}
 use mathlib.Core.Path.{_≡_, refl, sym, ap, ap₂, _∙_, subst}
@@ -130,6 +130,18 @@ module _ (us vs : List ℤ) (m : ℕ) where
 
     pub row-end : j ≡ m → any t (drop j edges) ≡ false
     row-end e = any-end t edges j (e ∙ sym edges-length)
+
+  -- edges that do not pass a test tell nothing
+  row-some : (t : ℕ × Segment → Bool) (j d : ℕ) → j + d ≤ m → ((k : ℕ) → j ≤ k → k < j + d → t (k, edgeAt us vs k) ≡ false) → any t (drop j edges) ≡ any t (drop (j + d) edges)
+  row-some t j zero h f = let z : j ≡ j + 0 = omega arith in ap (λ (n : ℕ). any t (drop n edges)) z
+  row-some t j (suc d) h f =
+      let z : j + d + 1 ≡ j + suc d = omega arith in
+      row-some t j d (omega arith) (λ k a b. f k a (omega arith)) ∙ sym (row-next t (j + d) (omega arith) (f (j + d) (omega arith) (omega arith))) ∙ ap (λ (n : ℕ). any t (drop n edges)) z
+
+  pub row-over : (t : ℕ × Segment → Bool) (j n : ℕ) → j ≤ n → n ≤ m → ((k : ℕ) → j ≤ k → k < n → t (k, edgeAt us vs k) ≡ false) → any t (drop j edges) ≡ any t (drop n edges)
+  row-over t j n a b f =
+      let z : j + (n - j) ≡ n = omega arith in
+      row-some t j (n - j) (omega arith) (λ k g h. f k g (omega arith)) ∙ ap (λ (n : ℕ). any t (drop n edges)) z
 
   -- what is found from a later edge on is found from an earlier one on
   pub row-back-to : (t : ℕ × Segment → Bool) (j d : ℕ) → j + d < m → any t (drop (j + d) edges) ≡ true → any t (drop j edges) ≡ true

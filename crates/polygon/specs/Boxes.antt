@@ -8,6 +8,7 @@ use lib.ListN.{getD, length}
 use lib.IntN.{ℤ, pos, natAbs, _+ℤ_}
 use Rattle.whole.specs.Lists.{tab}
 use Rattle.whole.specs.Size.{Small}
+use Rattle.polygon.specs.Plane.{side, sameSign}
 use Rattle.polygon.specs.Ring.{forbidden, isCrossed}
 use Rattle.polygon.specs.Leaves.{edgeAt}
 
@@ -76,6 +77,11 @@ parted ls hs i k = ltb (getD hs i 0) (getD ls k 0) || ltb (getD hs k 0) (getD ls
 -- where r holds, the boxes from j up to e are parted from box i
 pub record Parted (lus hus lvs hvs : List ℕ) (i j e : ℕ) (r : Bool) : Type 0 where
   pub each : r ≡ true → (k : ℕ) → j ≤ k → k < e → (parted lus hus i k || parted lvs hvs i k) ≡ true
+
+-- where r holds, the eight edges from j on lie each on one side of edge i's line
+pub record Beside (us vs : List ℤ) (i j : ℕ) (r : Bool) : Type 0 where
+  pub each : r ≡ true → (k : ℕ) → j ≤ k → k < j + 8
+      → sameSign (side (edgeAt us vs i .0) (edgeAt us vs i .1) (edgeAt us vs k .0)) (side (edgeAt us vs i .0) (edgeAt us vs i .1) (edgeAt us vs k .1)) ≡ true
 
 -- none before e is the last of m edges where i is the first: past the next one, these are no neighbours of edge i
 pub record Apart (m i e : ℕ) : Type 0 where

@@ -1,5 +1,6 @@
 // Check 05 of longer rings: most edges are told apart by their boxes, eight at a time, and by the boxes of blocks of eight edges.
 // Room of 176 numbers holds the ends of edges' boxes from 0 on and of blocks' boxes from 144 on; both are followed by room for eight more.
+use super::Edge;
 use super::plane;
 ghost use mathlib.Core.Path.{_≡_};
 ghost use mathlib.Core.Bool.{true, _||_};
@@ -8,9 +9,10 @@ ghost use Prim.Native.Nat.{_+_, _-_, _<_, _≤_};
 ghost use lib.ListN.{length, drop};
 ghost use Rattle.whole.specs.Lists.{any, numbered, tab};
 ghost use Rattle.whole.specs.Size.{Small};
+ghost use Rattle.polygon.specs.Plane.{side};
 ghost use Rattle.polygon.specs.Ring.{forbidden, isCrossed};
-ghost use Rattle.polygon.specs.Leaves.{edgeAt, Spread};
-ghost use Rattle.polygon.specs.Boxes.{step, ending, Line, Steps, Endings, Ahead, Blocks, Covered, Sides, Boxes, parted, Parted, Apart, Nexts, Nears, Free};
+ghost use Rattle.polygon.specs.Leaves.{asSegment, spot, Close, Ends, edgeAt, Spread};
+ghost use Rattle.polygon.specs.Boxes.{step, ending, Line, Steps, Endings, Ahead, Blocks, Covered, Sides, Boxes, parted, Parted, Beside, Apart, Nexts, Nears, Free};
 
 // Which step of four numbers a coordinate is on: in so little room, eight are held against a box at once.
 fn step(z: i64) -> u16
@@ -182,7 +184,53 @@ fn clashes_in(
     false
 }
 
-// The same of at most eight edges: most are told apart by their boxes, all at once.
+// How far a place lies off an edge's line, and to which side.
+fn off(e: Edge, cu: i64, cv: i64) -> i64
+    requires { ⌜ (Ends (asSegment e)) × (Close (spot cu cv)) ⌝ }
+    ensures { λ r. ⌜ r ≡ side (asSegment e .0) (asSegment e .1) (spot cu cv) ⌝ }
+{
+    let au = e.au;
+    let av = e.av;
+    let bu = e.bu;
+    let bv = e.bv;
+    (bu - au) * (cv - av) - (bv - av) * (cu - au)
+}
+
+// Whether the nine places of the eight edges from j on lie all on one side of edge i's line: no step of this branches.
+fn eight_beside(us: &[i64], vs: &[i64], m: usize, i: usize, j: usize) -> bool
+    requires { ⌜ Spread (now us) (now vs) m ⌝ }
+    requires { ⌜ (i < m) × (j + 8 ≤ m) × (m ≤ 128) ⌝ }
+    ensures { λ r. ⌜ Beside (now (us .entry)) (now (vs .entry)) i j r ⌝ }
+{
+    let e = plane::edge_at(us, vs, i);
+    let mut left = true;
+    let mut right = true;
+    let mut n: usize = 0;
+    while n < 9 {
+        let k = j + n;
+        let cu = us[k];
+        let cv = vs[k];
+        let s = off(e, cu, cv);
+        left = left & (0 < s);
+        right = right & (s < 0);
+        n += 1;
+    }
+    left | right
+}
+
+// Whether it is known of the eight edges from j on, where there are as many, that they lie beside edge i's line.
+fn beside(us: &[i64], vs: &[i64], m: usize, i: usize, j: usize) -> bool
+    requires { ⌜ Spread (now us) (now vs) m ⌝ }
+    requires { ⌜ (i < m) × (j < m) × (m ≤ 128) ⌝ }
+    ensures { λ r. ⌜ Beside (now (us .entry)) (now (vs .entry)) i j r ⌝ }
+{
+    if m < j + 8 {
+        return false;
+    }
+    eight_beside(us, vs, m, i, j)
+}
+
+// The same of at most eight edges: most are told apart all at once, by their boxes or because they lie beside edge i's line.
 fn clashes_eight(
     us: &[i64],
     vs: &[i64],
@@ -201,6 +249,9 @@ fn clashes_eight(
     ensures { λ r. ⌜ any (forbidden m (i, edgeAt (now (us .entry)) (now (vs .entry)) i)) (drop j (numbered (tab (edgeAt (now (us .entry)) (now (vs .entry))) m))) ≡ (r || any (forbidden m (i, edgeAt (now (us .entry)) (now (vs .entry)) i)) (drop e (numbered (tab (edgeAt (now (us .entry)) (now (vs .entry))) m)))) ⌝ }
 {
     if eight_parted(lus, hus, lvs, hvs, i, j) {
+        return false;
+    }
+    if beside(us, vs, m, i, j) {
         return false;
     }
     clashes_in(us, vs, lus, hus, lvs, hvs, m, i, j, e)
