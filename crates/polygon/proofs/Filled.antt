@@ -18,6 +18,7 @@ use Rattle.polygon.specs.Ring.{edgesIn, isCrossed}
 use Rattle.polygon.specs.Held.{pointsOf, placeAt, Coords, Known}
 use Rattle.polygon.specs.Leaves.{spot, edgeAt, Spread, Filled, seenSpots}
 use Rattle.polygon.specs.Sizes.{point-at}
+use Rattle.polygon.specs.Fan.{spotIn, isFan}
 
 -- ---- the copy: the first i are there
 pub record Filling (flat : List ℤ) (ring : List ℕ) (k n : ℕ) (room : List ℤ) (i : ℕ) : Type 0 where
@@ -122,3 +123,7 @@ pub in-plane : {flat : List ℤ} {ring : List ℕ} → Coords flat → Known rin
     → isCrossed (steps (seenSpots flat ring (uOf axis) (vOf axis))) ≡ isCrossed (edgesIn axis (places (pointsOf flat) ring))
 unfolding edgesIn
 in-plane {flat} {ring} h k axis = ap (λ (l : List Spot). isCrossed (steps l)) (seen-is h axis ring (k .each))
+
+-- places that fan out in the plane of the coordinates that an axis leaves
+pub fan-plane : (axis : Axis) (flat : List ℤ) (ring : List ℕ) (n : ℕ) → isFan (λ i. spotIn flat (uOf axis) (vOf axis) (getD ring i 0)) n ≡ isFan (λ i. dropAxis axis (placeAt flat (getD ring i 0))) n
+fan-plane axis flat ring n = λ t. isFan (λ i. drop-is axis flat (getD ring i 0) t) n

@@ -12,3 +12,4 @@ mod Nearness
 mod Around
 mod Siding
 mod Order
+mod Fans

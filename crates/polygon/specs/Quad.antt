@@ -55,11 +55,11 @@ last-fails true = refl
 last-fails false = refl
 
 -- ---- what one sign tells
-both-above : {x y : ℤ} → pos 0 <ℤ x → pos 0 <ℤ y → sameSign x y ≡ true
+pub both-above : {x y : ℤ} → pos 0 <ℤ x → pos 0 <ℤ y → sameSign x y ≡ true
 unfolding sameSign
 both-above h l = rw (lt-test h, lt-test l)
 
-both-below : {x y : ℤ} → x <ℤ pos 0 → y <ℤ pos 0 → sameSign x y ≡ true
+pub both-below : {x y : ℤ} → x <ℤ pos 0 → y <ℤ pos 0 → sameSign x y ≡ true
 unfolding sameSign
 both-below h l = rw (ge-test (lt-le h), lt-test h, lt-test l)
 
@@ -68,10 +68,10 @@ unfolding sameZ
 other {z = pos n} f = ne-eqb n 0 (λ e. f (ap pos e))
 other {z = negsuc n} f = refl
 
-some-above : {z : ℤ} → pos 0 <ℤ z → sameZ z (pos 0) ≡ false
+pub some-above : {z : ℤ} → pos 0 <ℤ z → sameZ z (pos 0) ≡ false
 some-above {z} h = other (λ e. lin 1 (λ z. k (pos 0) ≺ z ⇒ z ≈ k (pos 0) ⇒ never) (omega arith) z h e)
 
-some-below : {z : ℤ} → z <ℤ pos 0 → sameZ z (pos 0) ≡ false
+pub some-below : {z : ℤ} → z <ℤ pos 0 → sameZ z (pos 0) ≡ false
 some-below {z} h = other (λ e. lin 1 (λ z. z ≺ k (pos 0) ⇒ z ≈ k (pos 0) ⇒ never) (omega arith) z h e)
 
 -- what is used of it: none of the four areas is 0, nor is N; a b d has the sign of a b c, and b c d too
@@ -149,7 +149,7 @@ module _ (a b c d : Spot) where
           ≔ (((r ⊖ p) ⊗ (w ⊖ q) ⊖ (s ⊖ q) ⊗ (t ⊖ p)) ⊕ ((t ⊖ p) ⊗ (y ⊖ q) ⊖ (w ⊖ q) ⊗ (x ⊖ p))) ⊖ ((r ⊖ p) ⊗ (y ⊖ q) ⊖ (s ⊖ q) ⊗ (x ⊖ p))) tt
 
   -- an edge wholly on one side of another's line shares no point with it
-  beside : sameSign (side a b c) (side a b d) ≡ true → share (a, b) (c, d) ≡ false
+  pub beside : sameSign (side a b c) (side a b d) ≡ true → share (a, b) (c, d) ≡ false
   unfolding share
   beside e =
       ap (λ (t : Bool). overlap (a .u) (b .u) (c .u) (d .u) && overlap (a .v) (b .v) (c .v) (d .v) && not t && not (sameSign (side c d a) (side c d b))) e

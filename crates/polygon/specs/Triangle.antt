@@ -64,7 +64,7 @@ uncrossed a b c e =
     three (forbidden 3) (0, (a, b)) (1, (b, c)) (2, (c, a)) (no-more a b c e) (no-more c a b g) (no-more b c a f)
 
 -- ---- numbers of places that are the corners of some area differ
-level-first : (a c : Spot) → side a a c ≡ pos 0
+pub level-first : (a c : Spot) → side a a c ≡ pos 0
 unfolding side
 level-first a c = go (a .u) (a .v) (c .u) (c .v)
   where

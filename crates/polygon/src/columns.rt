@@ -14,7 +14,7 @@ ghost use Rattle.polygon.specs.Held.{pointsOf, Coords, Known};
 ghost use Rattle.polygon.specs.Leaves.{Filled, seenSpots};
 
 // Coordinate k of point p.
-fn coordinate(points: &[i32; 1536], p: u16, k: usize) -> i64
+pub fn coordinate(points: &[i32; 1536], p: u16, k: usize) -> i64
     requires { ⌜ Coords (now points) ⌝ }
     requires { ⌜ (p < 512) × (k ≤ 2) ⌝ }
     ensures { λ r. ⌜ r ≡ getD (now (points .entry)) (3 * p + k) (pos 0) ⌝ }

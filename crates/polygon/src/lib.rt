@@ -3,6 +3,7 @@
 mod boxes;
 mod columns;
 mod corners;
+mod fan;
 mod plane;
 mod space;
 
@@ -152,6 +153,26 @@ fn third_on(points: &[i32; 1536], ring: &[u16], tolerance: u16, n: Place) -> Fin
     Finding::Sound
 }
 
+// The same, where places that fan out are told first: where N is not zero, they pass all but 06.
+fn fan_first(points: &[i32; 1536], ring: &[u16], tolerance: u16, n: Place) -> Finding
+    requires { ⌜ Coords (now points) ⌝ }
+    requires { ⌜ Known (now ring) ⌝ }
+    requires { ⌜ (tolerance ≤ 1000) × (4 ≤ length (now ring)) × (isUnclosed (now ring) ≡ false) ⌝ }
+    requires { ⌜ asPoint n ≡ normal (places (pointsOf (now points)) (now ring)) ⌝ }
+    ensures { λ r. ⌜ r ≡ finding tolerance (pointsOf (now (points .entry))) (now (ring .entry)) ⌝ }
+{
+    if space::is_zero(n) {
+        return third_on(points, ring, tolerance, n);
+    }
+    if fan::is_fan(points, ring, space::largest_axis(n)) {
+        if space::is_uneven(points, ring, tolerance, n) {
+            return Finding::Uneven;
+        }
+        return Finding::Sound;
+    }
+    third_on(points, ring, tolerance, n)
+}
+
 // The finding of a ring whose normal is n: "the first of checks 01 to 06 that fails". Three corners whose normal is not zero
 // pass them all, and four that go round one way all but 06.
 fn first_failing(points: &[i32; 1536], ring: &[u16], tolerance: u16, n: Place) -> Finding
@@ -180,7 +201,7 @@ fn first_failing(points: &[i32; 1536], ring: &[u16], tolerance: u16, n: Place) -
             return Finding::Sound;
         }
     }
-    third_on(points, ring, tolerance, n)
+    fan_first(points, ring, tolerance, n)
 }
 
 // The normal of a ring: that of few corners needs no loop.

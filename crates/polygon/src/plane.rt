@@ -13,7 +13,7 @@ ghost use Rattle.polygon.specs.Ring.{forbidden, isCrossed};
 ghost use Rattle.polygon.specs.Leaves.{spot, asSegment, Close, Ends, edgeAt, Spread};
 
 // Which side of the line from a to b the place c is on.
-fn side(au: i64, av: i64, bu: i64, bv: i64, cu: i64, cv: i64) -> i64
+pub fn side(au: i64, av: i64, bu: i64, bv: i64, cu: i64, cv: i64) -> i64
     requires { ⌜ (Close (spot au av)) × (Close (spot bu bv)) × (Close (spot cu cv)) ⌝ }
     ensures { λ r. ⌜ r ≡ side (spot au av) (spot bu bv) (spot cu cv) ⌝ }
 {

@@ -88,8 +88,8 @@ returns-5 c =
     let s = c .before .before .before .before .before .before .before .before .before .before .before in
     found-level (s .args .tolerance) (table s) (s .args .ring .now) (long (c .before .before .before .before .before .before .before .before .before)) (closed (c .before .before .before .before .before .before .before)) (c .before .before .before .before .before .if5 .taken) (round (c .before .before)) (uneven-is (c .before) ∙ c .if7 .left)
 
-third-on-requires : tie.Need-third-on-requires
-third-on-requires c κs =
+fan-first-requires : tie.Need-fan-first-requires
+fan-first-requires c κs =
     let h = c .before .before .before .before .before .before .pre in
     (h .0, (h .1 .0, ((h .1 .1 .0, long (c .before .before .before .before), closed (c .before .before)), h .1 .1 .1)))
 
@@ -110,5 +110,5 @@ first-failing-spec =
     is-bent-requires
     returns-4
     returns-5
-    third-on-requires
+    fan-first-requires
     returns-6)

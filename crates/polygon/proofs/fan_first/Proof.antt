@@ -1,0 +1,99 @@
+-- `polygon::fan_first` meets its contract. Where the places fan out, 03 and 05 do not fail.
+use native.Mathlib.Omega.{arith}
+use mathlib.Core.Path.{_≡_, _∙_, sym, ap}
+use mathlib.Core.Bool.{true, false}
+use mathlib.Core.List.{List}
+use Prim.Native.Nat.{_-_}
+use lib.ListN.{length, getD}
+use borrow.Author.Needs.{needs}
+use Rattle.polygon.specs.Sizes.{near-same, normal-near}
+use Rattle.polygon.specs.Held.{pointsOf, placeAt}
+use Rattle.polygon.specs.Ring.{normal, isZero, isUneven}
+use Rattle.polygon.specs.Plane.{largestAxis, dropAxis}
+use Rattle.polygon.specs.Fan.{isFan}
+use Rattle.polygon.specs.Leaves.{Near, asPoint}
+use Rattle.polygon.specs.Space.{Point, places}
+use Rattle.polygon.specs.declared.Axis.{Axis}
+use Rattle.polygon.proofs.Order.{found-uneven, found-sound}
+use Rattle.polygon.proofs.Fans.{fan-single, fan-uncrossed}
+use Rattle.polygon.proofs.fan_first.Statement.{statement}
+use Rattle.polygon.proofs.fan_first.Tie as tie
+
+-- ---- the places of the ring, its points and its normal, from the start
+abbrev table : tie.Start → List Point
+table c = pointsOf (c .args .points .now)
+
+abbrev spots : tie.Start → List Point
+spots c = places (table c) (c .args .ring .now)
+
+near : (c : tie.Start) → Near 10160000000000 (asPoint (c .args .n))
+near c = near-same (c .pre .1 .1 .1) (normal-near (c .pre .0) (c .pre .1 .0))
+
+-- ---- what each check told
+some : (c : tie.Else1) → isZero (normal (spots (c .before .before .before))) ≡ false
+some c = ap isZero (sym (c .before .before .before .pre .1 .1 .1)) ∙ sym (c .before .is-zero .ensures) ∙ c .if1 .left
+
+fan : (c : tie.Then2) → let s = c .before .before .before .before .before .before in isFan (λ i. dropAxis (largestAxis (normal (spots s))) (placeAt (s .args .points .now) (getD (s .args .ring .now) i 0))) (length (s .args .ring .now) - 3) ≡ true
+fan c =
+    let s = c .before .before .before .before .before .before in
+    ap (λ (x : Axis). isFan (λ i. dropAxis x (placeAt (s .args .points .now) (getD (s .args .ring .now) i 0))) (length (s .args .ring .now) - 3)) (sym (c .before .before .largest-axis .ensures ∙ ap largestAxis (s .pre .1 .1 .1))) ∙ sym (c .before .is-fan .ensures) ∙ c .if2 .taken
+
+uneven-is : (c : tie.After-is-uneven) → let s = c .before .before .before .before .before .before .before in isUneven (s .args .tolerance) (normal (spots s)) (spots s) ≡ c .is-uneven .result
+uneven-is c = let s = c .before .before .before .before .before .before .before in ap (λ (n : Point). isUneven (s .args .tolerance) n (spots s)) (sym (s .pre .1 .1 .1)) ∙ sym (c .is-uneven .ensures)
+
+-- ---- the needs
+is-zero-requires : tie.Need-is-zero-requires
+is-zero-requires c κs = near (c .before)
+
+third-on-requires : tie.Need-third-on-requires
+third-on-requires c κs = search needs
+
+returns : tie.Need-returns
+returns c = search needs
+
+largest-axis-requires : tie.Need-largest-axis-requires
+largest-axis-requires c κs = near (c .before .before .before)
+
+is-fan-requires : tie.Need-is-fan-requires
+is-fan-requires c κs = search needs
+
+is-uneven-requires : tie.Need-is-uneven-requires
+is-uneven-requires c κs =
+    let s = c .before .before .before .before .before .before in
+    let h = s .pre .1 .1 .0 in
+    (s .pre .0, (s .pre .1 .0, ((omega (arith, h .1), h .0), near s)))
+
+returns-2 : tie.Need-returns-2
+returns-2 c =
+    let s = c .before .before .before .before .before .before .before .before in
+    let h = s .pre .1 .1 .0 in
+    let x = largestAxis (normal (spots s)) in
+    found-uneven (s .args .tolerance) (table s) (s .args .ring .now) (h .1) (h .2) (fan-single (s .pre .0) (s .pre .1 .0) (h .1) (h .2) x (fan (c .before .before))) (some (c .before .before .before .before .before)) (fan-uncrossed (s .pre .0) (s .pre .1 .0) (h .1) (h .2) x (fan (c .before .before))) (uneven-is (c .before) ∙ c .if3 .taken)
+
+returns-3 : tie.Need-returns-3
+returns-3 c =
+    let s = c .before .before .before .before .before .before .before .before in
+    let h = s .pre .1 .1 .0 in
+    let x = largestAxis (normal (spots s)) in
+    found-sound (s .args .tolerance) (table s) (s .args .ring .now) (h .1) (h .2) (fan-single (s .pre .0) (s .pre .1 .0) (h .1) (h .2) x (fan (c .before .before))) (some (c .before .before .before .before .before)) (fan-uncrossed (s .pre .0) (s .pre .1 .0) (h .1) (h .2) x (fan (c .before .before))) (uneven-is (c .before) ∙ c .if3 .left)
+
+third-on-requires-2 : tie.Need-third-on-requires-2
+third-on-requires-2 c κs = search needs
+
+returns-4 : tie.Need-returns-4
+returns-4 c = search needs
+
+pub fan-first-spec : {M : Type 1} → statement M
+fan-first-spec =
+    tie.close
+    (tie.spec
+    is-zero-requires
+    third-on-requires
+    returns
+    largest-axis-requires
+    is-fan-requires
+    is-uneven-requires
+    returns-2
+    returns-3
+    third-on-requires-2
+    returns-4)
