@@ -10,11 +10,12 @@ use lib.Dec.{ltb, leb, eqb}
 use lib.ListN.{length, getD, take, drop, length-append, length-drop}
 use lib.IntN.{ℤ, pos}
 use Rattle.whole.specs.Bools.{none-of}
-use Rattle.whole.specs.Lists.{tab, lastOf}
+use Rattle.whole.specs.Lists.{given, first, tab, lastOf}
 use Rattle.whole.specs.Stores.{cases, upto-done, length-upto, zeroed}
 use Rattle.polygon.specs.Ring.{isShort, isUnclosed, isRepeated, finding, findingNumber, part}
 use Rattle.polygon.specs.Held.{pointsOf}
 use Rattle.shell.specs.declared.Shape.{Shape}
+use Rattle.shell.specs.declared.Shape.the-variants.{Few}
 use Rattle.shell.specs.Held.{ringAt, rings, Starts}
 use Rattle.shell.specs.Table.{span, stepWord, ringWords, wordsTo, tableOf, ascending}
 use Rattle.shell.specs.Ascending.{length-ascending}
@@ -25,7 +26,7 @@ use Rattle.building.specs.declared.Scalars.{Scalars}
 use Rattle.building.specs.Tables.{loaded}
 use Rattle.building.specs.Lists.{tab-ext, take-is-tab, map-tab}
 use Rattle.building.specs.Findings.{isBroken, Early, early-broken, broken-early}
-use Rattle.building.specs.Holds.{Arrays, arrays, heldTables, heldBuilding, Loaded, Sizes, Found, Summed, Broken, Kept, Held, Did}
+use Rattle.building.specs.Holds.{Arrays, arrays, heldTables, heldBuilding, Loaded, Sizes, Found, Summed, Broken, Shown, Kept, Held, Did}
 use Rattle.building.specs.Steps.{numberAt, partAt, Checked, zeroed-all}
 
 -- ---- the lowest polygon that fails one of checks 01 to 03, or n
@@ -159,22 +160,49 @@ stamps-none entries starts n stamps h few =
     ∙ tab-ext (λ p. getD (zeroed stamps 256) p 0) (λ p. 0) n (λ p g. zeroed-all stamps h p)
     ∙ sym (map-tab (λ (r : List ℕ). 0) (ringAt entries starts) n)
 
+-- an empty table belongs to no rings
+pub known-none : {points : List ℤ} {entries starts : List ℕ} {s : Scalars} → Loaded points entries starts s → (table turned : List ℕ) → ((p : ℕ) → getD turned p 0 ≡ 0) → S.Known table 0 turned (Few 0)
+unfolding S.turnedRings S.fixedShape rings tab wordsTo ascending first given
+known-none {entries = entries} {starts = starts} {s = s} ld table turned z =
+    record {
+      present = [];
+      edged = record {
+        entries = entries;
+        starts = starts;
+        polygons = 0;
+        loaded = record {
+          points = s .points;
+          held = record { size = ld .entered .size; few = ld .entered .few; below = λ i h. absurd (omega (arith, ld .first)) };
+          begin = record { size = ld .begins .size; few = omega arith; ordered = λ p q h g. let e : p ≡ q = omega arith in rw e (omega arith); inside = omega (arith, ld .first) };
+          sound = λ p h. absurd (omega arith);
+        };
+        flags = λ p. omega (arith, z p);
+        present = refl;
+        words = refl;
+        room = omega arith;
+        fixed-is = refl;
+      };
+    }
+
 module _ (a : Arrays) (s : Scalars) (ld : Loaded (a .points) (a .entries) (a .starts) s) (sz : Sizes a) where
   pub did-loaded : {findings' : List ℕ} {parts' : List ℤ} {stamps' turned' table' : List ℕ}
       → Checked (s .tolerance) (a .points) (a .entries) (a .starts) (s .polygons) (a .findings) (a .parts) findings' parts'
       → stamps' ≡ zeroed (a .stamps) 256
       → turned' ≡ zeroed (a .turned) 256
       → length table' ≡ 1024
-      → (edges : ℕ) (fixed : Shape)
+      → (edges : ℕ) (fixed shape : Shape)
       → Broken (a .entries) (a .starts) (s .polygons) ⊎ S.Edged (rings (a .entries) (a .starts) (s .polygons)) table' edges turned' fixed
-      → Did (loaded (heldTables (a .points) (a .entries) (a .starts) s)) (arrays (a .points) (a .entries) (a .starts) stamps' findings' parts' table' turned') (record { tolerance = s .tolerance; points = s .points; polygons = s .polygons; last = 0; edges = edges; fixed = fixed })
+      → Shown table' edges turned' fixed shape
+      → {r : Scalars} → r ≡ record { tolerance = s .tolerance; points = s .points; polygons = s .polygons; last = 0; edges = edges; fixed = fixed; shape = shape }
+      → Did (loaded (heldTables (a .points) (a .entries) (a .starts) s)) (arrays (a .points) (a .entries) (a .starts) stamps' findings' parts' table' turned') r
   unfolding heldBuilding heldTables loaded
-  did-loaded {table' = table'} ch e f w edges fixed sh =
+  did-loaded {table' = table'} ch e f w edges fixed shape sh now g =
       let fo = checked-found ld (sz .findings) (sz .parts) ch in
       let su = checked-summed ld (sz .findings) (sz .parts) ch in
       let z : (p : ℕ) → getD (zeroed (a .turned) 256) p 0 ≡ 0 = zeroed-all (a .turned) (sz .turned) in
       let sh' : Broken (a .entries) (a .starts) (s .polygons) ⊎ S.Edged (rings (a .entries) (a .starts) (s .polygons)) table' edges (zeroed (a .turned) 256) fixed = rw f at sh in
-      rw (e, f)
+      let now' : Shown table' edges (zeroed (a .turned) 256) fixed shape = rw f at now in
+      rw (e, f, g)
       (record {
         held = record {
           loaded = record { coords = ld .coords; first = ld .first; begins = ld .begins; entered = ld .entered; tolerant = ld .tolerant; short = ld .short };
@@ -186,6 +214,7 @@ module _ (a : Arrays) (s : Scalars) (ld : Loaded (a .points) (a .entries) (a .st
             turned-size = length-upto (λ p old. 0) 0 (a .turned) 256 ∙ sz .turned;
             flags = λ p. omega (arith, z p);
             shaped = sh';
+            shown = now';
           };
         };
         is = rw (stamps-none (a .entries) (a .starts) (s .polygons) (a .stamps) (sz .stamps) (ld .begins .few));

@@ -9,7 +9,9 @@ use lib.IntN.{ℤ, pos}
 use Rattle.polygon.specs.Ring.{finding, findingNumber, part}
 use Rattle.polygon.specs.Held.{pointsOf, Coords}
 use Rattle.shell.specs.Held.{ringAt, rings, Starts, Entries}
-use Rattle.shell.specs.Kept.{Edged}
+use Rattle.shell.specs.declared.Shape.{Shape}
+use Rattle.shell.specs.Shell.{shape}
+use Rattle.shell.specs.Kept.{Edged, Known}
 use Rattle.building.specs.declared.Scalars.{Scalars}
 use Rattle.building.specs.Tables.{Tables, Building}
 use Rattle.building.specs.Findings.{isBroken}
@@ -80,6 +82,11 @@ pub record Broken (entries starts : List ℕ) (n : ℕ) : Type 0 where
   pub below : polygon < n
   pub broken : isBroken (ringAt entries starts polygon) ≡ true
 
+-- the kept table, flags and verdict belong to some rings, and `now` is the shape of the rings that they belong to
+pub record Shown (table : List ℕ) (edges : ℕ) (turned : List ℕ) (fixed now : Shape) : Type 0 where
+  pub known : Known table edges turned fixed
+  pub is : (rs : List (List ℕ)) → Edged rs table edges turned fixed → now ≡ shape rs
+
 -- what is kept of a held building is what the definitions give for the present points and rings
 pub record Kept (points : List ℤ) (entries starts findings : List ℕ) (parts : List ℤ) (table turned : List ℕ) (s : Scalars) : Type 0 where
   pub found : Found points entries starts findings s
@@ -88,6 +95,7 @@ pub record Kept (points : List ℤ) (entries starts findings : List ℕ) (parts 
   pub turned-size : length turned ≡ 256
   pub flags : (p : ℕ) → getD turned p 0 ≤ 1
   pub shaped : Broken entries starts (s .polygons) ⊎ Edged (rings entries starts (s .polygons)) table (s .edges) turned (s .fixed)
+  pub shown : Shown table (s .edges) turned (s .fixed) (s .shape)
 
 -- a held building
 pub record Held (a : Arrays) (s : Scalars) : Type 0 where

@@ -57,9 +57,9 @@ module _ {points : List ℤ} {entries starts : List ℕ} {s : Scalars} (ld : Loa
   tables-entries = entries-upto (s .polygons) (omega arith)
 
 -- ---- tables just begun
-module _ (points : List ℤ) (entries starts : List ℕ) (tolerance last edges : ℕ) (fixed : Shape) where
+module _ (points : List ℤ) (entries starts : List ℕ) (tolerance last edges : ℕ) (fixed shape : Shape) where
   abbrev none-yet : Scalars
-  none-yet = record { tolerance = tolerance; points = 0; polygons = 0; last = last; edges = edges; fixed = fixed }
+  none-yet = record { tolerance = tolerance; points = 0; polygons = 0; last = last; edges = edges; fixed = fixed; shape = shape }
 
   pub loaded-begun : Coords points → length entries ≡ 1024 → length starts ≡ 257 → getD starts 0 0 ≡ 0 → tolerance ≤ 1000 → Loaded points entries starts none-yet
   loaded-begun co e f z t =
@@ -77,9 +77,9 @@ module _ (points : List ℤ) (entries starts : List ℕ) (tolerance last edges :
   tables-begun = refl
 
 -- ---- a point more
-module _ {points : List ℤ} {entries starts : List ℕ} {s : Scalars} (ld : Loaded points entries starts s) (p : Point) (few : s .points < 512) (last edges : ℕ) (fixed : Shape) where
+module _ {points : List ℤ} {entries starts : List ℕ} {s : Scalars} (ld : Loaded points entries starts s) (p : Point) (few : s .points < 512) (last edges : ℕ) (fixed shape : Shape) where
   abbrev point-more : Scalars
-  point-more = record { tolerance = s .tolerance; points = s .points + 1; polygons = s .polygons; last = last; edges = edges; fixed = fixed }
+  point-more = record { tolerance = s .tolerance; points = s .points + 1; polygons = s .polygons; last = last; edges = edges; fixed = fixed; shape = shape }
 
   pub loaded-point : isFar p ≡ false → Loaded (placed points (s .points) p) entries starts point-more
   loaded-point far =
@@ -114,7 +114,7 @@ all-below n [] none i h = absurd (omega arith)
 all-below n (e ∷ ring) (more q a) zero h = q
 all-below n (e ∷ ring) (more q a) (suc i) h = all-below n ring a i (omega arith)
 
-module _ {points : List ℤ} {entries starts : List ℕ} {s : Scalars} (ld : Loaded points entries starts s) (ring : Polygon) (r : Room entries starts s ring) (last edges : ℕ) (fixed : Shape) where
+module _ {points : List ℤ} {entries starts : List ℕ} {s : Scalars} (ld : Loaded points entries starts s) (ring : Polygon) (r : Room entries starts s ring) (last edges : ℕ) (fixed shape : Shape) where
   abbrev from : ℕ
   from = getD starts (s .polygons) 0
 
@@ -122,7 +122,7 @@ module _ {points : List ℤ} {entries starts : List ℕ} {s : Scalars} (ld : Loa
   new-starts = set starts (s .polygons + 1) (from + length ring)
 
   abbrev polygon-more : Scalars
-  polygon-more = record { tolerance = s .tolerance; points = s .points; polygons = s .polygons + 1; last = last; edges = edges; fixed = fixed }
+  polygon-more = record { tolerance = s .tolerance; points = s .points; polygons = s .polygons + 1; last = last; edges = edges; fixed = fixed; shape = shape }
 
   start-old : (q : ℕ) → q ≤ s .polygons → getD new-starts q 0 ≡ getD starts q 0
   start-old q h = getD-set-other starts (s .polygons + 1) q (from + length ring) 0 (λ e. omega arith)

@@ -94,7 +94,7 @@ module _ (a : Arrays) (s : Scalars) (hd : Held a s) (number n : ℕ) (p : Point)
   pub did-moved : {points' : List ℤ} {stamps' findings' : List ℕ} {parts' : List ℤ}
       → points' ≡ placed (a .points) n p
       → Looked (s .tolerance) points' (a .entries) (a .starts) number n (s .polygons) (a .stamps) (a .findings) (a .parts) stamps' findings' parts'
-      → Did (moved number n p (heldBuilding a s)) (arrays points' (a .entries) (a .starts) stamps' findings' parts' (a .table) (a .turned)) (record { tolerance = s .tolerance; points = s .points; polygons = s .polygons; last = number; edges = s .edges; fixed = s .fixed })
+      → Did (moved number n p (heldBuilding a s)) (arrays points' (a .entries) (a .starts) stamps' findings' parts' (a .table) (a .turned)) (record { tolerance = s .tolerance; points = s .points; polygons = s .polygons; last = number; edges = s .edges; fixed = s .fixed; shape = s .shape })
   unfolding heldBuilding heldTables moved
   did-moved e lo =
       let ld = hd .loaded in
@@ -117,6 +117,7 @@ module _ (a : Arrays) (s : Scalars) (hd : Held a s) (number n : ℕ) (p : Point)
             turned-size = kp .turned-size;
             flags = kp .flags;
             shaped = kp .shaped;
+            shown = kp .shown;
           };
         };
         is = rw (placed-points (a .points) n p w, take-set-lt (s .points) (pointsOf (a .points)) n p h, moved-stamps (a .entries) (a .starts) number n (s .polygons) (a .stamps) b);

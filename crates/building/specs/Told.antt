@@ -240,29 +240,33 @@ module _ {points : List ℤ} {entries starts : List ℕ} {s : Scalars} (ld : Loa
     h : s .polygons ≤ low
     h = omega (arith, lowest-is-length (take (s .polygons) found) sound, all-told)
 
-    pub told-edged : Edged (rings entries starts (s .polygons)) table (s .edges) turned (s .fixed)
+    told-edged : Edged (rings entries starts (s .polygons)) table (s .edges) turned (s .fixed)
     told-edged = ⊎-elim (λ b. absurd (told-whole ld (kp .found) refl h b)) (λ ed. ed) (kp .shaped)
 
-    module _ {sh : Shape} (e : sh ≡ shape (rings entries starts (s .polygons))) {number : ℕ} (n : number ≡ shapeNumber sh) where
-      pub says-unsound : (number ≡ 0 → ⊥) → Unsound sh ≡ verdict (heldTables points entries starts s)
+    -- what is kept of the shape is that of the present rings
+    told-shape : s .shape ≡ shape (rings entries starts (s .polygons))
+    told-shape = kp .shown .is (rings entries starts (s .polygons)) told-edged
+
+    module _ {number : ℕ} (n : number ≡ shapeNumber (s .shape)) where
+      pub says-unsound : (number ≡ 0 → ⊥) → Unsound (s .shape) ≡ verdict (heldTables points entries starts s)
       unfolding heldTables
       says-unsound z =
           sym (told-sound ld (kp .found) refl h
-          ∙ ap (λ (x : Shape). first Accepted (shapeFault x ∷ given (leZ (sixVolume (heldTables points entries starts s)) (pos 0)) Inward ∷ [])) (sym e)
-          ∙ rows-unsound sh (sixVolume (heldTables points entries starts s)) (above (shapeNumber sh) (λ q. z (n ∙ q))))
+          ∙ ap (λ (x : Shape). first Accepted (shapeFault x ∷ given (leZ (sixVolume (heldTables points entries starts s)) (pos 0)) Inward ∷ [])) (sym told-shape)
+          ∙ rows-unsound (s .shape) (sixVolume (heldTables points entries starts s)) (above (shapeNumber (s .shape)) (λ q. z (n ∙ q))))
 
       module _ (z : number ≡ 0) {v : ℤ} (w : v ≡ sumUpTo parts (s .polygons)) where
-        none-unsound : ltb 0 (shapeNumber sh) ≡ false
-        none-unsound = le-ltb 0 (shapeNumber sh) (omega (arith, n))
+        none-unsound : ltb 0 (shapeNumber (s .shape)) ≡ false
+        none-unsound = le-ltb 0 (shapeNumber (s .shape)) (omega (arith, n))
 
-        rest : verdict (heldTables points entries starts s) ≡ first Accepted (shapeFault sh ∷ given (leZ v (pos 0)) Inward ∷ [])
+        rest : verdict (heldTables points entries starts s) ≡ first Accepted (shapeFault (s .shape) ∷ given (leZ v (pos 0)) Inward ∷ [])
         unfolding heldTables
         rest =
             told-sound ld (kp .found) refl h
-            ∙ ap₂ (λ (x : Shape) (y : ℤ). first Accepted (shapeFault x ∷ given (leZ y (pos 0)) Inward ∷ [])) (sym e) (sym (w ∙ kept-volume ld (kp .summed)))
+            ∙ ap₂ (λ (x : Shape) (y : ℤ). first Accepted (shapeFault x ∷ given (leZ y (pos 0)) Inward ∷ [])) (sym told-shape) (sym (w ∙ kept-volume ld (kp .summed)))
 
         pub says-inward : leZ v (pos 0) ≡ true → Inward ≡ verdict (heldTables points entries starts s)
-        says-inward t = sym (rest ∙ rows-inward sh v none-unsound t)
+        says-inward t = sym (rest ∙ rows-inward (s .shape) v none-unsound t)
 
         pub says-accepted : leZ v (pos 0) ≡ false → Accepted ≡ verdict (heldTables points entries starts s)
-        says-accepted t = sym (rest ∙ rows-accepted sh v none-unsound t)
+        says-accepted t = sym (rest ∙ rows-accepted (s .shape) v none-unsound t)

@@ -23,13 +23,14 @@ use Rattle.polygon.specs.Held.{pointsOf, Coords, Known}
 use Rattle.polygon.specs.Sizes.{part-small}
 use Rattle.shell.specs.declared.Shape.{Shape}
 use Rattle.shell.specs.Held.{ringAt, rings}
+use Rattle.shell.specs.Kept as S
 use Rattle.shell.specs.EdgedLaws.{edged-turned}
 use Rattle.building.specs.declared.Scalars.{Scalars}
 use Rattle.building.specs.Tables.{Building, turned}
 use Rattle.shell.specs.Tabs.{getD-tab, length-tab}
 use Rattle.building.specs.Lists.{tab-set}
 use Rattle.building.specs.Findings.{isBroken, broken-turned}
-use Rattle.building.specs.Holds.{Arrays, arrays, heldTables, heldBuilding, Loaded, Found, Summed, Broken, Kept, Held, Did}
+use Rattle.building.specs.Holds.{Arrays, arrays, heldTables, heldBuilding, Loaded, Found, Summed, Broken, Shown, Kept, Held, Did}
 use Rattle.building.specs.Rings.{Ring, rings-length, ring-of, turnedEntries, turned-own, turned-known, turned-other, turned-same, turned-rings, turned-loaded, at-is-set}
 
 -- ---- the part of a turned ring, from what it was
@@ -105,20 +106,31 @@ module _ {points : List ℤ} {entries starts : List ℕ} {s : Scalars} (ld : Loa
       }
 
 module _ (a : Arrays) (s : Scalars) (hd : Held a s) (number p : ℕ) (h : p < s .polygons) where
+  -- the table belongs to some rings after the turn, too
+  pub turned-shown : S.Known (a .table) (s .edges) (flipped (a .turned) p) (s .fixed)
+  turned-shown =
+      let k = hd .kept .shown .known in
+      record {
+        present = at p reverse (k .present);
+        edged = edged-turned (k .present) (a .table) (s .edges) (a .turned) (s .fixed) p (omega (arith, hd .kept .turned-size, hd .loaded .begins .few)) (k .edged);
+      }
+
   -- the turned ring, its part, its stamp and its flag make the building that a turn makes
   pub did-turned : {entries' stamps' : List ℕ} {parts' : List ℤ} {turned' : List ℕ}
       → entries' ≡ turnedEntries (a .entries) (a .starts) p
       → stamps' ≡ set (a .stamps) p number
       → parts' ≡ set (a .parts) p (part (pointsOf (a .points)) (reverse (ringAt (a .entries) (a .starts) p)))
       → turned' ≡ flipped (a .turned) p
-      → Did (turned number p (heldBuilding a s)) (arrays (a .points) entries' (a .starts) stamps' (a .findings) parts' (a .table) turned') (record { tolerance = s .tolerance; points = s .points; polygons = s .polygons; last = number; edges = s .edges; fixed = s .fixed })
+      → {shape' : Shape} → Shown (a .table) (s .edges) turned' (s .fixed) shape'
+      → Did (turned number p (heldBuilding a s)) (arrays (a .points) entries' (a .starts) stamps' (a .findings) parts' (a .table) turned') (record { tolerance = s .tolerance; points = s .points; polygons = s .polygons; last = number; edges = s .edges; fixed = s .fixed; shape = shape' })
   unfolding heldBuilding heldTables turned
-  did-turned e₁ e₂ e₃ e₄ =
+  did-turned e₁ e₂ e₃ e₄ {shape'} sh =
       let ld = hd .loaded in
       let kp = hd .kept in
       let few : p < 256 = omega (arith, ld .begins .few) in
       let lt = turned-loaded ld p h in
       let b : p < length (a .turned) = omega (arith, kp .turned-size) in
+      let sh' : Shown (a .table) (s .edges) (flipped (a .turned) p) (s .fixed) shape' = rw e₄ at sh in
       rw (e₁, e₂, e₃, e₄)
       (record {
         held = record {
@@ -131,6 +143,7 @@ module _ (a : Arrays) (s : Scalars) (hd : Held a s) (number p : ℕ) (h : p < s 
             turned-size = length-set (a .turned) p (1 - getD (a .turned) p 0) ∙ kp .turned-size;
             flags = flipped-flags (a .turned) p (kp .flags);
             shaped = ⊎-elim (λ br. inl (turned-broken ld p h br)) (λ ed. inr (rw (turned-rings ld p h) (edged-turned (rings (a .entries) (a .starts) (s .polygons)) (a .table) (s .edges) (a .turned) (s .fixed) p b ed))) (kp .shaped);
+            shown = sh';
           };
         };
         is = rw (turned-rings ld p h, take-set-lt (s .polygons) (a .stamps) p number h);

@@ -33,7 +33,8 @@ pub enum Verdict {
 }
 
 // What is held beside the arrays: the numbers of points, polygons and words of the edge table in use, the last accepted
-// correction number, and the check of the whole that no correction changes.
+// correction number, the check of the whole that no correction changes, and the one that fails first as the rings stand now, which only
+// a turn changes.
 pub struct Scalars {
     pub tolerance: u16,
     pub points: usize,
@@ -41,6 +42,7 @@ pub struct Scalars {
     pub last: u32,
     pub edges: usize,
     pub fixed: Shape,
+    pub shape: Shape,
 }
 
 // Ring n ends where the next one starts.

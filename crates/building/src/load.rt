@@ -6,10 +6,11 @@ ghost use Prim.Native.Nat.{_≤_};
 ghost use lib.ListN.{length};
 ghost use Rattle.whole.specs.Stores.{zeroed};
 ghost use Rattle.building.specs.Tables.{loaded};
-ghost use Rattle.building.specs.Holds.{arrays, heldTables, Loaded, Sizes, Did};
+ghost use Rattle.shell.specs.Kept.{Known};
+ghost use Rattle.building.specs.Holds.{arrays, heldTables, Loaded, Sizes, Shown, Did};
 ghost use Rattle.building.specs.Steps.{Checked};
 ghost use Rattle.building.specs.Check.{isEarly, EarlyAt};
-ghost use Rattle.building.specs.Writes.{LoadWrites};
+ghost use Rattle.building.specs.Writes.{checked, LoadWrites};
 
 // Every polygon's finding and part.
 fn check_rings(
@@ -79,6 +80,30 @@ fn lowest_early(findings: &[u8; 256], n: usize) -> usize
     i
 }
 
+// The scalars after end of load, with the check of the whole that fails first as the rings stand now. Of a ring that fails one of 01 to 03
+// no table is made: the table of no rings stands in for it, and nothing is asked of it.
+fn held_shape(
+    table: &[u64; 1024],
+    turned: &[u8; 256],
+    s: Scalars,
+    edges: usize,
+    fixed: Shape,
+) -> Scalars
+    requires { ⌜ Known (now table) edges (now turned) fixed × ((length (now table) ≡ 1024) × (length (now turned) ≡ 256)) ⌝ }
+    ensures { λ r. ⌜ (r ≡ checked s edges fixed (r .shape)) × Shown (now (table .entry)) edges (now (turned .entry)) fixed (r .shape) ⌝ }
+{
+    let shape = shell::shape_now(table, edges, turned, fixed);
+    Scalars {
+        tolerance: s.tolerance,
+        points: s.points,
+        polygons: s.polygons,
+        last: 0,
+        edges: edges,
+        fixed: fixed,
+        shape: shape,
+    }
+}
+
 // End of load: "checks the building and holds it with last correction number 0 and all stamps 0". The edges are told of only where
 // every ring passes checks 01 to 03; where one does not, no correction mends it.
 pub fn check_all(
@@ -103,23 +128,10 @@ pub fn check_all(
     let n = s.polygons;
     let early = lowest_early(findings, n);
     if early < n {
-        return Scalars {
-            tolerance: s.tolerance,
-            points: s.points,
-            polygons: n,
-            last: 0,
-            edges: 0,
-            fixed: Shape::Whole,
-        };
+        return held_shape(table, turned, s, 0, Shape::Few(0));
     }
     let kept = shell::built(entries, starts, n, table);
+    let edges = kept.count;
     let fixed = kept.fixed;
-    Scalars {
-        tolerance: s.tolerance,
-        points: s.points,
-        polygons: n,
-        last: 0,
-        edges: kept.count,
-        fixed: fixed,
-    }
+    held_shape(table, turned, s, edges, fixed)
 }

@@ -203,6 +203,7 @@ pub fn move_point(
         number,
     );
     let fixed = s.fixed;
+    let shape = s.shape;
     Scalars {
         tolerance: s.tolerance,
         points: s.points,
@@ -210,5 +211,6 @@ pub fn move_point(
         last: number,
         edges: s.edges,
         fixed: fixed,
+        shape: shape,
     }
 }

@@ -165,9 +165,7 @@ pub fn verdict_of(
         let found = finding_from(findings[low]);
         return Verdict::Faulty(low, found);
     }
-    let edges = s.edges;
-    let fixed = s.fixed;
-    let shape = shell::shape_now(table, edges, turned, fixed);
+    let shape = s.shape;
     if shape_number(shape) != 0 {
         return Verdict::Unsound(shape);
     }

@@ -90,13 +90,16 @@ pub fn turn_polygon(
     turn_ring(points, entries, starts, parts, n);
     stamps[n] = number;
     turned[n] = 1 - turned[n];
+    let edges = s.edges;
     let fixed = s.fixed;
+    let shape = shell::shape_now(table, edges, turned, fixed);
     Scalars {
         tolerance: s.tolerance,
         points: s.points,
         polygons: s.polygons,
         last: number,
-        edges: s.edges,
+        edges: edges,
         fixed: fixed,
+        shape: shape,
     }
 }

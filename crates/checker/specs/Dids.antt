@@ -111,7 +111,7 @@ holding-not-nothing e = true≢false (ap holds e)
 module _ (a : Arrays) (d : Desk) (v : Valid a d) (tolerance : ℕ) where
   -- a load just begun
   abbrev pub begunDesk : ℕ → Desk
-  begunDesk at = record { mode = Loading; held = record { tolerance = tolerance; points = 0; polygons = 0; last = 0; edges = 0; fixed = Whole }; at = at }
+  begunDesk at = record { mode = Loading; held = record { tolerance = tolerance; points = 0; polygons = 0; last = 0; edges = 0; fixed = Whole; shape = Whole }; at = at }
 
   -- the chains of no point
   begun-chains : (m : Mode) → d .mode ≡ m → (table : List ℕ) → table ≡ unchained m (a .table) → Chained (a .points) table 0
@@ -128,13 +128,13 @@ module _ (a : Arrays) (d : Desk) (v : Valid a d) (tolerance : ℕ) where
       did-accepted (service a d) (begin tolerance) Accepted room room′ (d .at) (withPoints (a .points) table a) (begunDesk at)
       (sym (of-begin (service a d) tolerance ∙ (rw (le-ltb 1000 tolerance h)))) refl
       (record {
-        loaded = loaded-begun (a .points) (a .entries) (a .starts) tolerance 0 0 Whole (v .loaded .coords) (v .loaded .entered .size) (v .loaded .begins .size) (v .loaded .first) h;
+        loaded = loaded-begun (a .points) (a .entries) (a .starts) tolerance 0 0 Whole Whole (v .loaded .coords) (v .loaded .entered .size) (v .loaded .begins .size) (v .loaded .first) h;
         sizes = record { stamps = v .sizes .stamps; findings = v .sizes .findings; parts = v .sizes .parts; table = ch .size; turned = v .sizes .turned };
         kept = λ q. absurd (not-held q);
         chained = λ q. ch;
         fresh = λ q. absurd (loading-not-nothing q);
       })
-      (ap loading (tables-begun (a .points) (a .entries) (a .starts) tolerance 0 0 Whole))
+      (ap loading (tables-begun (a .points) (a .entries) (a .starts) tolerance 0 0 Whole Whole))
       w
 
   pub did-begin-beyond : 1000 < tolerance → (room room′ : List ℕ) (d′ : Desk) → Did (refused Beyond (service a d)) room (d .at) a room′ d′ → Did (does (service a d) (begin tolerance)) room (d .at) a room′ d′
@@ -156,7 +156,7 @@ module _ (a : Arrays) (d : Desk) (v : Valid a d) (x y z : ℤ) (r : Refusal) (ro
   pointDesk at =
       record {
         mode = Loading;
-        held = record { tolerance = d .held .tolerance; points = d .held .points + 1; polygons = d .held .polygons; last = d .held .last; edges = d .held .edges; fixed = Whole };
+        held = record { tolerance = d .held .tolerance; points = d .held .points + 1; polygons = d .held .polygons; last = d .held .last; edges = d .held .edges; fixed = Whole; shape = Whole };
         at = at;
       }
 
@@ -176,14 +176,14 @@ module _ (a : Arrays) (d : Desk) (v : Valid a d) (x y z : ℤ) (r : Refusal) (ro
       did-accepted (service a d) (point x y z) r room room′ (d .at) (withPoints points table a) (pointDesk at) row t
       (record {
         loaded = subst (λ (q : List ℤ). Loaded q (a .entries) (a .starts) (pointDesk at .held)) (sym e)
-            (loaded-point (v .loaded) (point3 x y z) few (d .held .last) (d .held .edges) Whole (point-passed .within));
+            (loaded-point (v .loaded) (point3 x y z) few (d .held .last) (d .held .edges) Whole Whole (point-passed .within));
         sizes = record { stamps = v .sizes .stamps; findings = v .sizes .findings; parts = v .sizes .parts; table = ch .size; turned = v .sizes .turned };
         kept = λ q. absurd (not-held q);
         chained = λ q. ch;
         fresh = λ q. absurd (loading-not-nothing q);
       })
       (ap (λ (q : List ℤ). loading (heldTables q (a .entries) (a .starts) (pointDesk at .held))) e
-      ∙ ap loading (tables-point (v .loaded) (point3 x y z) few (d .held .last) (d .held .edges) Whole)
+      ∙ ap loading (tables-point (v .loaded) (point3 x y z) few (d .held .last) (d .held .edges) Whole Whole)
       ∙ ap (λ (st : State). takes st (point x y z)) (sym (service-loads a d point-loads)))
       w
 
@@ -210,7 +210,7 @@ module _ (a : Arrays) (d : Desk) (v : Valid a d) (ring : List ℕ) (r : Refusal)
   polygonDesk at =
       record {
         mode = Loading;
-        held = record { tolerance = d .held .tolerance; points = d .held .points; polygons = d .held .polygons + 1; last = d .held .last; edges = d .held .edges; fixed = Whole };
+        held = record { tolerance = d .held .tolerance; points = d .held .points; polygons = d .held .polygons + 1; last = d .held .last; edges = d .held .edges; fixed = Whole; shape = Whole };
         at = at;
       }
 
@@ -229,14 +229,14 @@ module _ (a : Arrays) (d : Desk) (v : Valid a d) (ring : List ℕ) (r : Refusal)
       (record {
         loaded = subst (λ (q : List ℕ). Loaded (a .points) q starts (polygonDesk at .held)) (sym e)
             (subst (λ (q : List ℕ). Loaded (a .points) (sets (a .entries) from ring) q (polygonDesk at .held)) (sym f)
-            (loaded-polygon (v .loaded) ring (space-for few space short) (d .held .last) (d .held .edges) Whole));
+            (loaded-polygon (v .loaded) ring (space-for few space short) (d .held .last) (d .held .edges) Whole Whole));
         sizes = record { stamps = v .sizes .stamps; findings = v .sizes .findings; parts = v .sizes .parts; table = v .sizes .table; turned = v .sizes .turned };
         kept = λ q. absurd (not-held q);
         chained = λ q. v .chained (loads-is (d .mode) polygon-loads);
         fresh = λ q. absurd (loading-not-nothing q);
       })
       ((λ i. loading (heldTables (a .points) (e i) (f i) (polygonDesk at .held)))
-      ∙ ap loading (tables-polygon (v .loaded) ring (space-for few space short) (d .held .last) (d .held .edges) Whole)
+      ∙ ap loading (tables-polygon (v .loaded) ring (space-for few space short) (d .held .last) (d .held .edges) Whole Whole)
       ∙ ap (λ (st : State). takes st (polygon ring)) (sym (service-loads a d polygon-loads)))
       w
 

@@ -179,6 +179,7 @@ fn idle() -> Desk
         last: 0,
         edges: 0,
         fixed: Shape::Whole,
+        shape: Shape::Whole,
     };
     Desk {
         mode: Mode::Nothing,

@@ -48,6 +48,7 @@ pub fn begin(table: &mut [u64; 1024], room: &mut [u8], d: Desk, tolerance: u16) 
         last: 0,
         edges: 0,
         fixed: Shape::Whole,
+        shape: Shape::Whole,
     };
     Desk {
         mode: Mode::Loading,
@@ -84,6 +85,7 @@ pub fn add_point(
             last: s.last,
             edges: s.edges,
             fixed: Shape::Whole,
+            shape: Shape::Whole,
         };
         return Desk {
             mode: Mode::Loading,
@@ -135,6 +137,7 @@ pub fn add_polygon(
             last: s.last,
             edges: s.edges,
             fixed: Shape::Whole,
+            shape: Shape::Whole,
         };
         return Desk {
             mode: Mode::Loading,

@@ -2,7 +2,7 @@
 use native.Mathlib.Omega.{arith}
 use mathlib.Core.Path.{sym, _∙_}
 use mir.Facts.{toZ-ofZ}
-use Rattle.building.specs.Told.{told-low, told-number, told-faulty, told-edged, says-unsound, says-inward, says-accepted}
+use Rattle.building.specs.Told.{told-low, told-number, told-faulty, says-unsound, says-inward, says-accepted}
 use borrow.Author.Needs.{needs}
 use Rattle.building.proofs.report.verdict_of.Statement.{statement}
 use Rattle.building.proofs.report.verdict_of.Tie as tie
@@ -26,34 +26,25 @@ returns c =
     let l = c .before .before .lowest-of .ensures in
     told-faulty (p .0) (p .1 .0 .found) l (told-low (p .0) (p .1 .0) l (p .1 .1 .0) (c .before .before .before .if1 .taken)) _ (c .finding-from .ensures)
 
-shape-now-requires : tie.Need-shape-now-requires
-shape-now-requires c κs =
-    let p = c .before .pre in
-    let k = p .1 .0 in
-    (record { present = _; edged = told-edged (p .0) k (sym (p .1 .1 .0) ∙ c .if1 .left) }, k .table-size, k .turned-size)
-
 shape-number-requires : tie.Need-shape-number-requires
 shape-number-requires c κs = search needs
 
 returns-2 : tie.Need-returns-2
 returns-2 c =
-    let p = c .before .before .before .before .pre in
-    let f = sym (p .1 .1 .0) ∙ c .before .before .before .if1 .left in
-    says-unsound (p .0) (p .1 .0) f (c .before .before .shape-now .ensures _ (told-edged (p .0) (p .1 .0) f)) (c .before .shape-number .ensures) (c .if2 .taken)
+    let p = c .before .before .before .pre in
+    says-unsound (p .0) (p .1 .0) (sym (p .1 .1 .0) ∙ c .before .before .if1 .left) (c .before .shape-number .ensures) (c .if2 .taken)
 
 returns-3 : tie.Need-returns-3
 returns-3 c =
-    let s = c .before .before .before .before .before in
+    let s = c .before .before .before .before in
     let p = s .pre in
-    let f = sym (p .1 .1 .0) ∙ c .before .before .before .before .if1 .left in
-    says-inward (p .0) (p .1 .0) f (c .before .before .before .shape-now .ensures _ (told-edged (p .0) (p .1 .0) f)) (c .before .before .shape-number .ensures) (c .before .if2 .left) (toZ-ofZ (s .fits .volume) ∙ p .1 .1 .1) (c .if3 .taken)
+    says-inward (p .0) (p .1 .0) (sym (p .1 .1 .0) ∙ c .before .before .before .if1 .left) (c .before .before .shape-number .ensures) (c .before .if2 .left) (toZ-ofZ (s .fits .volume) ∙ p .1 .1 .1) (c .if3 .taken)
 
 returns-4 : tie.Need-returns-4
 returns-4 c =
-    let s = c .before .before .before .before .before in
+    let s = c .before .before .before .before in
     let p = s .pre in
-    let f = sym (p .1 .1 .0) ∙ c .before .before .before .before .if1 .left in
-    says-accepted (p .0) (p .1 .0) f (c .before .before .before .shape-now .ensures _ (told-edged (p .0) (p .1 .0) f)) (c .before .before .shape-number .ensures) (c .before .if2 .left) (toZ-ofZ (s .fits .volume) ∙ p .1 .1 .1) (c .if3 .left)
+    says-accepted (p .0) (p .1 .0) (sym (p .1 .1 .0) ∙ c .before .before .before .if1 .left) (c .before .before .shape-number .ensures) (c .before .if2 .left) (toZ-ofZ (s .fits .volume) ∙ p .1 .1 .1) (c .if3 .left)
 
 pub verdict-of-spec : {M : Type 1} → statement M
 verdict-of-spec =
@@ -63,7 +54,6 @@ verdict-of-spec =
     element-copy-out-finding-from
     finding-from-requires
     returns
-    shape-now-requires
     shape-number-requires
     returns-2
     returns-3

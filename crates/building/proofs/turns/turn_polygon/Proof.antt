@@ -1,8 +1,9 @@
 -- `building::turns::turn_polygon` meets its contract, by the law of a turn (`did-turned`).
-use mathlib.Core.Path.{refl}
-use Rattle.building.specs.Holds.{arrays}
+use mathlib.Core.Path.{refl, _∙_}
+use lib.ListN.{length-set}
+use Rattle.building.specs.Holds.{arrays, Shown}
 use Rattle.building.specs.Rings.{ring-of}
-use Rattle.building.specs.Turned.{did-turned}
+use Rattle.building.specs.Turned.{flipped, turned-shown, did-turned}
 use borrow.Author.Needs.{needs}
 use Rattle.building.proofs.turns.turn_polygon.Statement.{statement}
 use Rattle.building.proofs.turns.turn_polygon.Tie as tie
@@ -28,13 +29,22 @@ sub-turned c = c .before .before .before .before .pre .0 .kept .flags (c .before
 element-write-turned : tie.Need-element-write-turned
 element-write-turned c = search needs
 
+shape-now-requires : tie.Need-shape-now-requires
+shape-now-requires c κs =
+    let s = c .before .before .before .before .before in
+    let a = s .args in
+    let k = s .pre .0 .kept in
+    (turned-shown (arrays (a .points .now) (a .entries .now) (a .starts .now) (a .stamps .now) (a .findings .now) (a .parts .now) (a .table .now) (a .turned .now)) (a .s) (s .pre .0) (a .number) (a .n) (s .pre .1), k .table-size, length-set (a .turned .now) (a .n) _ ∙ k .turned-size)
+
 returns : tie.Need-returns
 returns c =
-    let s = c .before .before .before .before in
+    let s = c .before .before .before .before .before .before in
     let a = s .args in
-    let e = c .before .turn-ring .ensures in (
-      did-turned (arrays (a .points .now) (a .entries .now) (a .starts .now) (a .stamps .now) (a .findings .now) (a .parts .now) (a .table .now) (a .turned .now)) (a .s) (s .pre .0) (a .number) (a .n) (s .pre .1) (e .0) refl (e .1) refl,
-      record { entries = e .0; stamps = refl; parts = e .1; turned = refl; scalars = refl },
+    let e = c .before .before .before .turn-ring .ensures in
+    let sh : Shown (a .table .now) (a .s .edges) (flipped (a .turned .now) (a .n)) (a .s .fixed) (c .shape-now .result) =
+    record { known = turned-shown (arrays (a .points .now) (a .entries .now) (a .starts .now) (a .stamps .now) (a .findings .now) (a .parts .now) (a .table .now) (a .turned .now)) (a .s) (s .pre .0) (a .number) (a .n) (s .pre .1); is = c .shape-now .ensures } in (
+      did-turned (arrays (a .points .now) (a .entries .now) (a .starts .now) (a .stamps .now) (a .findings .now) (a .parts .now) (a .table .now) (a .turned .now)) (a .s) (s .pre .0) (a .number) (a .n) (s .pre .1) (e .0) refl (e .1) refl sh,
+      record { entries = e .0; stamps = refl; parts = e .1; turned = refl; scalars = refl; shown = sh },
     )
 
 pub turn-polygon-spec : {M : Type 1} → statement M
@@ -47,4 +57,5 @@ turn-polygon-spec =
     element-copy-out-turned
     sub-turned
     element-write-turned
+    shape-now-requires
     returns)

@@ -17,7 +17,9 @@ check-all-requires : tie.Need-check-all-requires
 check-all-requires c κs = search needs
 
 put-report-requires : tie.Need-put-report-requires
-put-report-requires c κs = search needs
+put-report-requires c κs =
+    let h = c .before .before .before .before .before .check-all .ensures .0 .held in
+    (c .before .before .before .before .before .before .before .before .before .before .before .before .before .before .before .before .pre .0, (h .loaded, h .kept))
 
 same-length : tie.Need-same-length
 same-length c = search needs
