@@ -13,7 +13,6 @@ use Rattle.polygon.specs.Plane.{largestAxis}
 use Rattle.polygon.specs.Ring.{finding, isShort, isUnclosed, isRepeated, normal, isZero, edgesIn, isCrossed, isUneven}
 use Rattle.polygon.specs.Checks.{checks, finding-rows}
 use Rattle.polygon.specs.Triangle.{triangle-single, triangle-uncrossed, triangle-even}
-use Rattle.polygon.specs.Quad.{goesRound, quad-single, quad-some, quad-uncrossed}
 use Rattle.polygon.proofs.Rings.{not-not}
 
 -- "last entry differs from first", from whether the ring is closed
@@ -70,14 +69,3 @@ module _ (tolerance : ℕ) (points : List Point) (ring : List ℕ) where
       -- three corners whose normal is not 0
       pub found-triangle : length ring ≡ 4 → isZero n ≡ false → Sound ≡ finding tolerance points ring
       found-triangle h e = found-sound (triangle-single points ring h two e) e (triangle-uncrossed points ring h two e) (triangle-even points ring h two tolerance)
-
-      -- four that go round one way
-      module _ (five : length ring ≡ 5) (round : goesRound (largestAxis n) points ring ≡ true) where
-        abbrev uneven : Bool
-        uneven = isUneven tolerance n (places points ring)
-
-        pub found-bent : uneven ≡ true → Uneven ≡ finding tolerance points ring
-        found-bent = found-uneven (quad-single points ring five two (largestAxis n) round) (quad-some points ring five two (largestAxis n) round) (quad-uncrossed points ring five two (largestAxis n) round)
-
-        pub found-level : uneven ≡ false → Sound ≡ finding tolerance points ring
-        found-level = found-sound (quad-single points ring five two (largestAxis n) round) (quad-some points ring five two (largestAxis n) round) (quad-uncrossed points ring five two (largestAxis n) round)

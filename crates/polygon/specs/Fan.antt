@@ -6,24 +6,23 @@ use native.Mathlib.Omega.{arith}
 use native.Mathlib.Decide.{decLt}
 use native.Mathlib.Numerals.{add-one}
 use mathlib.Core.Path.{_≡_, refl, sym, ap, ap₂, _∙_, subst}
-use mathlib.Core.Bool.{Bool, true, false, _&&_, _||_, true≢false}
+use mathlib.Core.Bool.{Bool, true, false, not, _&&_, _||_, true≢false}
 use mathlib.Core.Logic.{_⊎_, inl, inr}
 use mathlib.Core.List.{List}
-use borrow.Author.Tests.{eqb-true}
+use borrow.Author.Tests.{eqb-true, ne-eqb}
 use lib.ListN.{getD}
 use lib.IntN.{ℤ, pos, negsuc, negℤ, _+ℤ_, _-ℤ_, _*ℤ_, pos-+ℤ-pos}
 use lib.Signed.{_<ℤ_, _≤ℤ_, ltZ}
 use Rattle.whole.specs.Solve.{k, _⊕_, _⊖_, _⊗_, ⊝_, ring, _≔_}
 use Rattle.whole.specs.Linear.{lin, _≼_, _≺_, _≈_, _⇒_, never}
-use Rattle.whole.specs.Tests.{lt-yes, mul-pos-pos, mul-nonneg, square, three-ways, lt-le}
+use Rattle.whole.specs.Tests.{lt-yes, lt-test, ge-test, mul-pos-pos, mul-nonneg, square, three-ways, lt-le}
 use Rattle.whole.specs.Bools.{and-left, and-right}
 use Rattle.whole.specs.Lists.{sameZ}
-use Rattle.polygon.specs.Plane.{Spot, side, sameSign, share, turnOff, ahead, shareMore}
+use Rattle.polygon.specs.Plane.{Spot, side, sameSign, overlap, share, turnOff, ahead, shareMore}
 use Rattle.polygon.specs.Leaves.{spot}
 use Rattle.polygon.specs.Meet.{Meet}
 use Rattle.polygon.specs.Share.{share-meet}
 use Rattle.polygon.specs.Triangle.{side-round, no-more, level-first}
-use Rattle.polygon.specs.Quad.{both-above, both-below, some-above, some-below, beside}
 
 -- where point p stands in the plane of coordinates i and j
 abbrev pub spotIn : List ℤ → ℕ → ℕ → ℕ → Spot
@@ -60,6 +59,32 @@ every-at t (suc n) i e h = go (decLt i n) (every-at t n i (and-left (every t n) 
     go (yes p) f = f p
     go (no p) f = let z : i ≡ n = omega arith in ap t z ∙ and-right (every t n) (t n) e
 
+-- ---- what one sign tells
+turned-up : {z : ℤ} → z <ℤ pos 0 → pos 0 <ℤ negℤ z
+turned-up {z} h = lin 1 (λ z. z ≺ k (pos 0) ⇒ k (pos 0) ≺ ⊝ z) (omega arith) z h
+
+turned-down : {z : ℤ} → pos 0 <ℤ negℤ z → z <ℤ pos 0
+turned-down {z} h = lin 1 (λ z. k (pos 0) ≺ ⊝ z ⇒ z ≺ k (pos 0)) (omega arith) z h
+
+both-above : {x y : ℤ} → pos 0 <ℤ x → pos 0 <ℤ y → sameSign x y ≡ true
+unfolding sameSign
+both-above h l = rw (lt-test h, lt-test l)
+
+both-below : {x y : ℤ} → x <ℤ pos 0 → y <ℤ pos 0 → sameSign x y ≡ true
+unfolding sameSign
+both-below h l = rw (ge-test (lt-le h), lt-test h, lt-test l)
+
+other : {z : ℤ} → (z ≡ pos 0 → ⊥) → sameZ z (pos 0) ≡ false
+unfolding sameZ
+other {z = pos n} f = ne-eqb n 0 (λ e. f (ap pos e))
+other {z = negsuc n} f = refl
+
+some-above : {z : ℤ} → pos 0 <ℤ z → sameZ z (pos 0) ≡ false
+some-above {z} h = other (λ e. lin 1 (λ z. k (pos 0) ≺ z ⇒ z ≈ k (pos 0) ⇒ never) (omega arith) z h e)
+
+some-below : {z : ℤ} → z <ℤ pos 0 → sameZ z (pos 0) ≡ false
+some-below {z} h = other (λ e. lin 1 (λ z. z ≺ k (pos 0) ⇒ z ≈ k (pos 0) ⇒ never) (omega arith) z h e)
+
 -- ---- a number, turned about where the way is the other
 abbrev signed : Bool → ℤ → ℤ
 signed true z = z
@@ -67,15 +92,15 @@ signed false z = negℤ z
 
 above-is : (way : Bool) (z : ℤ) → above way z ≡ true → pos 0 <ℤ signed way z
 above-is true z e = lt-yes refl refl e
-above-is false z e = lin 1 (λ z. z ≺ k (pos 0) ⇒ k (pos 0) ≺ ⊝ z) (omega arith) z (lt-yes refl refl e)
+above-is false z e = turned-up {z = z} (lt-yes refl refl e)
 
 some-is : (way : Bool) (z : ℤ) → pos 0 <ℤ signed way z → sameZ z (pos 0) ≡ false
 some-is true z h = some-above h
-some-is false z h = some-below (lin 1 (λ z. k (pos 0) ≺ ⊝ z ⇒ z ≺ k (pos 0)) (omega arith) z h)
+some-is false z h = some-below (turned-down {z = z} h)
 
 one-sign : (way : Bool) (x y : ℤ) → pos 0 <ℤ signed way x → pos 0 <ℤ signed way y → sameSign x y ≡ true
 one-sign true x y h l = both-above h l
-one-sign false x y h l = both-below (lin 1 (λ z. k (pos 0) ≺ ⊝ z ⇒ z ≺ k (pos 0)) (omega arith) x h) (lin 1 (λ z. k (pos 0) ≺ ⊝ z ⇒ z ≺ k (pos 0)) (omega arith) y l)
+one-sign false x y h l = both-below (turned-down {z = x} h) (turned-down {z = y} l)
 
 same-zero : {z : ℤ} → sameZ z (pos 0) ≡ true → z ≡ pos 0
 unfolding sameZ
@@ -100,10 +125,21 @@ cancel {a} {x} h l = go (three-ways x (pos 0))
 
     go : (x <ℤ pos 0) ⊎ ((x ≡ pos 0) ⊎ (pos 0 <ℤ x)) → pos 0 <ℤ x
     go (inl p) =
-        let m : pos 0 <ℤ negℤ (a *ℤ x) = subst (λ (z : ℤ). pos 0 <ℤ z) (flip a x) (mul-pos-pos h (lin 1 (λ z. z ≺ k (pos 0) ⇒ k (pos 0) ≺ ⊝ z) (omega arith) x p)) in
+        let m : pos 0 <ℤ negℤ (a *ℤ x) = subst (λ (z : ℤ). pos 0 <ℤ z) (flip a x) (mul-pos-pos h (turned-up p)) in
         absurd (lin 1 (λ z. k (pos 0) ≺ z ⇒ k (pos 0) ≺ ⊝ z ⇒ never) (omega arith) (a *ℤ x) l m)
     go (inr (inl p)) = absurd (lin 1 (λ z. k (pos 0) ≺ z ⇒ z ≈ k (pos 0) ⇒ never) (omega arith) (a *ℤ x) l (ap (λ (z : ℤ). a *ℤ z) p ∙ none a))
     go (inr (inr p)) = p
+
+-- ---- an edge wholly on one side of another's line shares no point with it
+middle-fails : (t u : Bool) → (t && false && u) ≡ false
+middle-fails true u = refl
+middle-fails false u = refl
+
+beside : (a b c d : Spot) → sameSign (side a b c) (side a b d) ≡ true → share (a, b) (c, d) ≡ false
+unfolding share
+beside a b c d e =
+    ap (λ (t : Bool). overlap (a .u) (b .u) (c .u) (d .u) && overlap (a .v) (b .v) (c .v) (d .v) && not t && not (sameSign (side c d a) (side c d b))) e
+    ∙ middle-fails (overlap (a .u) (b .u) (c .u) (d .u) && overlap (a .v) (b .v) (c .v) (d .v)) (not (sameSign (side c d a) (side c d b)))
 
 -- ---- three places between which a fourth lies
 module _ (o r p q t : Spot) where
@@ -177,7 +213,7 @@ module _ (o p q r : Spot) where
       clash : turnOff (p, q) (q, r) ≡ pos 0 → ahead (p, q) (q, r) <ℤ pos 0 → ⊥
       clash e f =
           let a : pos 0 ≤ℤ (long *ℤ signed way (side o q r)) = mul-nonneg long-is (lt-le l) in
-          let b : pos 0 <ℤ (negℤ (ahead (p, q) (q, r)) *ℤ signed way (side o p q)) = mul-pos-pos (lin 1 (λ z. z ≺ k (pos 0) ⇒ k (pos 0) ≺ ⊝ z) (omega arith) (ahead (p, q) (q, r)) f) h in
+          let b : pos 0 <ℤ (negℤ (ahead (p, q) (q, r)) *ℤ signed way (side o p q)) = mul-pos-pos (turned-up f) h in
           lin 2 (λ x y. k (pos 0) ≼ x ⇒ k (pos 0) ≺ y ⇒ x ⊕ y ≈ k (pos 0) ⇒ never) (omega arith) _ _ a b (back-signed way e)
 
       go : (t u : Bool) → sameZ (turnOff (p, q) (q, r)) (pos 0) ≡ t → ltZ (ahead (p, q) (q, r)) (pos 0) ≡ u → (t && u) ≡ false

@@ -50,7 +50,7 @@ module _ (a b c : Spot) where
   no-more e = rw (turn-second, e)
 
 -- of three, no two are related, if the first and the second are not, nor the first and the third, nor the second and the third
-pub three : {A : Type 0} (r : A → A → Bool) (x y z : A) → r x y ≡ false → r x z ≡ false → r y z ≡ false → anyTwo r (x ∷ y ∷ z ∷ []) ≡ false
+three : {A : Type 0} (r : A → A → Bool) (x y z : A) → r x y ≡ false → r x z ≡ false → r y z ≡ false → anyTwo r (x ∷ y ∷ z ∷ []) ≡ false
 unfolding anyTwo any
 three r x y z p q s =
     two-next r (x ∷ y ∷ z ∷ []) 0 x (omega arith) (none-any (r x) (y ∷ z ∷ []) (more p (more q none)))
@@ -102,7 +102,7 @@ module _ (a b c : Point) where
           ≔ (r ⊖ p) ⊗ (w ⊖ q) ⊖ (s ⊖ q) ⊗ (t ⊖ p)) tt
 
   -- its component on an axis is twice the signed area in the plane left by dropping it
-  pub area-is : (axis : Axis) → side (dropAxis axis a) (dropAxis axis b) (dropAxis axis c) ≡ on axis (cross (relativeTo a b) (relativeTo a c))
+  area-is : (axis : Axis) → side (dropAxis axis a) (dropAxis axis b) (dropAxis axis c) ≡ on axis (cross (relativeTo a b) (relativeTo a c))
   unfolding side dropAxis cross relativeTo
   area-is X = refl
   area-is Y = refl
@@ -149,7 +149,7 @@ unfolding size isZero
 all-zero n h = rw (zero-of (n .x) (omega arith), zero-of (n .y) (omega arith), zero-of (n .z) (omega arith))
 
 -- so where N is not 0, that component is not
-pub largest-some : (n : Point) → isZero n ≡ false → sameZ (on (largestAxis n) n) (pos 0) ≡ false
+largest-some : (n : Point) → isZero n ≡ false → sameZ (on (largestAxis n) n) (pos 0) ≡ false
 largest-some n e = go (sameZ (on (largestAxis n) n) (pos 0)) refl
   where
     go : (t : Bool) → sameZ (on (largestAxis n) n) (pos 0) ≡ t → t ≡ false

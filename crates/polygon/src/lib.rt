@@ -165,7 +165,7 @@ fn fan_first(points: &[i32; 1536], ring: &[u16], tolerance: u16, n: Place) -> Fi
         return third_on(points, ring, tolerance, n);
     }
     if fan::is_fan(points, ring, space::largest_axis(n)) {
-        if space::is_uneven(points, ring, tolerance, n) {
+        if corners::is_uneven(points, ring, tolerance, n) {
             return Finding::Uneven;
         }
         return Finding::Sound;
@@ -174,7 +174,7 @@ fn fan_first(points: &[i32; 1536], ring: &[u16], tolerance: u16, n: Place) -> Fi
 }
 
 // The finding of a ring whose normal is n: "the first of checks 01 to 06 that fails". Three corners whose normal is not zero
-// pass them all, and four that go round one way all but 06.
+// pass them all.
 fn first_failing(points: &[i32; 1536], ring: &[u16], tolerance: u16, n: Place) -> Finding
     requires { ⌜ Coords (now points) ⌝ }
     requires { ⌜ Known (now ring) ⌝ }
@@ -190,14 +190,6 @@ fn first_failing(points: &[i32; 1536], ring: &[u16], tolerance: u16, n: Place) -
     }
     if ring.len() == 4 {
         if !space::is_zero(n) {
-            return Finding::Sound;
-        }
-    }
-    if ring.len() == 5 {
-        if corners::is_convex(points, ring, space::largest_axis(n)) {
-            if corners::is_bent(points, ring, tolerance, n) {
-                return Finding::Uneven;
-            }
             return Finding::Sound;
         }
     }

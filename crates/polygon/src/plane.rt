@@ -72,7 +72,7 @@ pub fn share(e: Edge, f: Edge) -> bool
 }
 
 // How far the way (r, s) turns off the way (p, q), and how far it goes that way.
-pub fn turn_off(p: i64, q: i64, r: i64, s: i64) -> i64
+fn turn_off(p: i64, q: i64, r: i64, s: i64) -> i64
     requires { ⌜ (Small 200000 p) × (Small 200000 q) × (Small 200000 r) × (Small 200000 s) ⌝ }
     ensures { λ z. ⌜ z ≡ p *ℤ s -ℤ q *ℤ r ⌝ }
 {

@@ -61,7 +61,7 @@ is-uneven-requires : tie.Need-is-uneven-requires
 is-uneven-requires c κs =
     let s = c .before .before .before .before .before .before in
     let h = s .pre .1 .1 .0 in
-    (s .pre .0, (s .pre .1 .0, ((omega (arith, h .1), h .0), near s)))
+    (s .pre .0, (s .pre .1 .0, ((omega (arith, h .1), h .2, h .0), s .pre .1 .1 .1)))
 
 returns-2 : tie.Need-returns-2
 returns-2 c =

@@ -23,7 +23,7 @@ shared-slice-read-second : tie.Need-shared-slice-read-second
 shared-slice-read-second c = search needs
 
 is-off-requires : tie.Need-is-off-requires
-is-off-requires c κs = let h = c .before .before .before .before .pre in (h .0, ((h .1 .0 .each 0 (omega arith), h .1 .0 .each 1 (omega arith)), near (c .before .before .before .before)))
+is-off-requires c κs = let h = c .before .before .before .before .pre in (h .0, ((h .1 .0 .each 0 (omega arith), h .1 .0 .each _ (omega arith)), near (c .before .before .before .before)))
 
 returns : tie.Need-returns
 returns c =
