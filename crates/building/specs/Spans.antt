@@ -3,14 +3,14 @@
 use Prim.Native.Nat.{ℕ, zero, suc, _+_, _-_, _≤_, _<_}
 use native.Mathlib.Omega.{arith}
 use mathlib.Core.Path.{_≡_, refl, sym, ap, _∙_}
-use mathlib.Core.Bool.{Bool, true, false, cond}
+use mathlib.Core.Bool.{false, cond}
 use mathlib.Core.List.{List, [], _∷_}
-use borrow.Author.Tests.{ltb-true, ltb-false, lt-ltb, le-ltb}
+use borrow.Author.Tests.{ltb-true, ltb-false, le-ltb}
 use lib.Dec.{ltb, eqb}
 use lib.ListN.{length, getD, set}
 use lib.Seq.{set-getD}
 use lib.IntN.{ℤ, pos}
-use Rattle.whole.specs.Lists.{any, lists}
+use Rattle.whole.specs.Lists.{lists}
 use Rattle.whole.specs.All.{All, any-none, none-any}
 use Rattle.whole.specs.Stores.{cases, upto, length-upto, upto-more, upto-rest}
 use Rattle.shell.specs.Held.{ringAt, Starts}

@@ -237,11 +237,11 @@ module _ {points : List ℤ} {entries starts : List ℕ} {s : Scalars} (ld : Loa
   told-low e g f = omega (arith, lowest-inside (take (s .polygons) found) (λ z. f (g ∙ z)), all-told)
 
   module _ (sound : tally (ltb 0) (take (s .polygons) found) ≡ 0) where
-    h : s .polygons ≤ low
-    h = omega (arith, lowest-is-length (take (s .polygons) found) sound, all-told)
+    low-past : s .polygons ≤ low
+    low-past = omega (arith, lowest-is-length (take (s .polygons) found) sound, all-told)
 
     told-edged : Edged (rings entries starts (s .polygons)) table (s .edges) turned (s .fixed)
-    told-edged = ⊎-elim (λ b. absurd (told-whole ld (kp .found) refl h b)) (λ ed. ed) (kp .shaped)
+    told-edged = ⊎-elim (λ b. absurd (told-whole ld (kp .found) refl low-past b)) (λ ed. ed) (kp .shaped)
 
     -- what is kept of the shape is that of the present rings
     told-shape : s .shape ≡ shape (rings entries starts (s .polygons))
@@ -251,7 +251,7 @@ module _ {points : List ℤ} {entries starts : List ℕ} {s : Scalars} (ld : Loa
       pub says-unsound : (number ≡ 0 → ⊥) → Unsound (s .shape) ≡ verdict (heldTables points entries starts s)
       unfolding heldTables
       says-unsound z =
-          sym (told-sound ld (kp .found) refl h
+          sym (told-sound ld (kp .found) refl low-past
           ∙ ap (λ (x : Shape). first Accepted (shapeFault x ∷ given (leZ (sixVolume (heldTables points entries starts s)) (pos 0)) Inward ∷ [])) (sym told-shape)
           ∙ rows-unsound (s .shape) (sixVolume (heldTables points entries starts s)) (above (shapeNumber (s .shape)) (λ q. z (n ∙ q))))
 
@@ -262,7 +262,7 @@ module _ {points : List ℤ} {entries starts : List ℕ} {s : Scalars} (ld : Loa
         rest : verdict (heldTables points entries starts s) ≡ first Accepted (shapeFault (s .shape) ∷ given (leZ v (pos 0)) Inward ∷ [])
         unfolding heldTables
         rest =
-            told-sound ld (kp .found) refl h
+            told-sound ld (kp .found) refl low-past
             ∙ ap₂ (λ (x : Shape) (y : ℤ). first Accepted (shapeFault x ∷ given (leZ y (pos 0)) Inward ∷ [])) (sym told-shape) (sym (w ∙ kept-volume ld (kp .summed)))
 
         pub says-inward : leZ v (pos 0) ≡ true → Inward ≡ verdict (heldTables points entries starts s)

@@ -80,8 +80,8 @@ fn lowest_early(findings: &[u8; 256], n: usize) -> usize
     i
 }
 
-// The scalars after end of load, with the check of the whole that fails first as the rings stand now. Of a ring that fails one of 01 to 03
-// no table is made: the table of no rings stands in for it, and nothing is asked of it.
+// The scalars after end of load, with the check of the whole that fails first as the rings stand now. Where a ring fails one of 01 to 03
+// no table is made, and the table of no rings stands in for it: a turn then asks it like any other.
 fn held_shape(
     table: &[u64; 1024],
     turned: &[u8; 256],
