@@ -49,6 +49,23 @@ pub fn pyramid(outline: &[(i64, i64)], apex: P) -> Solid {
     Solid { points, rings }
 }
 
+/// A square tower of many storeys: from its floor to its top is as many steps across edges as it has storeys.
+pub fn tower(storeys: usize) -> Solid {
+    let mut points = Vec::new();
+    for z in 0..=storeys as i64 {
+        points.extend([[0, 0, z], [1, 0, z], [1, 1, z], [0, 1, z]]);
+    }
+    let top = 4 * storeys;
+    let mut rings = vec![closed(&[3, 2, 1, 0]), closed(&[top, top + 1, top + 2, top + 3])];
+    for storey in 0..storeys {
+        for side in 0..4 {
+            let (i, j) = (4 * storey + side, 4 * storey + (side + 1) % 4);
+            rings.push(closed(&[i, j, j + 4, i + 4]));
+        }
+    }
+    Solid { points, rings }
+}
+
 pub fn cuboid(x: i64, y: i64, z: i64) -> Solid {
     prism(&[(0, 0), (x, 0), (x, y), (0, y)], z)
 }
@@ -344,7 +361,7 @@ pub fn small(dice: &mut Dice) -> Solid {
 
 /// A solid near the bounds on polygons, entries and the length of a ring.
 pub fn large(dice: &mut Dice) -> Solid {
-    match dice.below(5) {
+    match dice.below(6) {
         0 => ball(dice, 2),
         1 => {
             let n = 20 + dice.below(70);
@@ -355,6 +372,7 @@ pub fn large(dice: &mut Dice) -> Solid {
             pyramid(&outline(dice, n), [9, 0, 9])
         }
         3 => random_cells(dice, 4, 40),
+        4 => tower(30 + dice.below(21)),
         _ => ball(dice, 1),
     }
 }
