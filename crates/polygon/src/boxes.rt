@@ -105,7 +105,7 @@ fn sides(us: &[i64], m: usize, ls: &mut [u16], hs: &mut [u16])
     blocks(m, true, hs);
 }
 
-// Whether edges i and k have no number in common on one axis.
+// Whether boxes i and k have no step in common on one axis.
 fn parted(ls: &[u16], hs: &[u16], i: usize, k: usize) -> bool
     requires { ⌜ (i < length (now ls)) × (i < length (now hs)) × (k < length (now ls)) × (k < length (now hs)) ⌝ }
     ensures { λ r. ⌜ r ≡ parted (now (ls .entry)) (now (hs .entry)) i k ⌝ }
@@ -113,7 +113,7 @@ fn parted(ls: &[u16], hs: &[u16], i: usize, k: usize) -> bool
     (hs[i] < ls[k]) | (hs[k] < ls[i])
 }
 
-// Whether the boxes of the eight edges from j on are parted from edge i's: no step of this branches.
+// Whether the eight boxes from j on, of edges or of blocks, are parted from edge i's: no step of this branches.
 fn eight_parted(lus: &[u16], hus: &[u16], lvs: &[u16], hvs: &[u16], i: usize, j: usize) -> bool
     requires { ⌜ (length (now lus) ≡ 176) × (length (now hus) ≡ 176) × (length (now lvs) ≡ 176) × (length (now hvs) ≡ 176) ⌝ }
     requires { ⌜ (i < 144) × (j + 8 ≤ 176) ⌝ }
@@ -131,7 +131,53 @@ fn eight_parted(lus: &[u16], hus: &[u16], lvs: &[u16], hvs: &[u16], i: usize, j:
     all
 }
 
-// Whether edges i and k of m, k past the neighbours of i, do.
+// How far a place lies off an edge's line, and to which side.
+fn off(e: Edge, cu: i64, cv: i64) -> i64
+    requires { ⌜ (Ends (asSegment e)) × (Close (spot cu cv)) ⌝ }
+    ensures { λ r. ⌜ r ≡ side (asSegment e .0) (asSegment e .1) (spot cu cv) ⌝ }
+{
+    let au = e.au;
+    let av = e.av;
+    let bu = e.bu;
+    let bv = e.bv;
+    (bu - au) * (cv - av) - (bv - av) * (cu - au)
+}
+
+// Whether the nine places of the eight edges from j on lie all on one side of edge i's line: no step of this branches.
+fn eight_beside(us: &[i64], vs: &[i64], m: usize, i: usize, j: usize) -> bool
+    requires { ⌜ Spread (now us) (now vs) m ⌝ }
+    requires { ⌜ (i < m) × (j + 8 ≤ m) × (m ≤ 128) ⌝ }
+    ensures { λ r. ⌜ Beside (now (us .entry)) (now (vs .entry)) i j r ⌝ }
+{
+    let e = plane::edge_at(us, vs, i);
+    let mut left = true;
+    let mut right = true;
+    let mut n: usize = 0;
+    while n < 9 {
+        let k = j + n;
+        let cu = us[k];
+        let cv = vs[k];
+        let s = off(e, cu, cv);
+        left = left & (0 < s);
+        right = right & (s < 0);
+        n += 1;
+    }
+    left | right
+}
+
+// The same where there are as many edges; of fewer nothing is known.
+fn lie_beside(us: &[i64], vs: &[i64], m: usize, i: usize, j: usize) -> bool
+    requires { ⌜ Spread (now us) (now vs) m ⌝ }
+    requires { ⌜ (i < m) × (j < m) × (m ≤ 128) ⌝ }
+    ensures { λ r. ⌜ Beside (now (us .entry)) (now (vs .entry)) i j r ⌝ }
+{
+    if m < j + 8 {
+        return false;
+    }
+    eight_beside(us, vs, m, i, j)
+}
+
+// Whether edges i and k of m, k past the neighbours of i, have in common what they may not.
 fn clash_past(
     us: &[i64],
     vs: &[i64],
@@ -184,52 +230,6 @@ fn clashes_in(
     false
 }
 
-// How far a place lies off an edge's line, and to which side.
-fn off(e: Edge, cu: i64, cv: i64) -> i64
-    requires { ⌜ (Ends (asSegment e)) × (Close (spot cu cv)) ⌝ }
-    ensures { λ r. ⌜ r ≡ side (asSegment e .0) (asSegment e .1) (spot cu cv) ⌝ }
-{
-    let au = e.au;
-    let av = e.av;
-    let bu = e.bu;
-    let bv = e.bv;
-    (bu - au) * (cv - av) - (bv - av) * (cu - au)
-}
-
-// Whether the nine places of the eight edges from j on lie all on one side of edge i's line: no step of this branches.
-fn eight_beside(us: &[i64], vs: &[i64], m: usize, i: usize, j: usize) -> bool
-    requires { ⌜ Spread (now us) (now vs) m ⌝ }
-    requires { ⌜ (i < m) × (j + 8 ≤ m) × (m ≤ 128) ⌝ }
-    ensures { λ r. ⌜ Beside (now (us .entry)) (now (vs .entry)) i j r ⌝ }
-{
-    let e = plane::edge_at(us, vs, i);
-    let mut left = true;
-    let mut right = true;
-    let mut n: usize = 0;
-    while n < 9 {
-        let k = j + n;
-        let cu = us[k];
-        let cv = vs[k];
-        let s = off(e, cu, cv);
-        left = left & (0 < s);
-        right = right & (s < 0);
-        n += 1;
-    }
-    left | right
-}
-
-// Whether it is known of the eight edges from j on, where there are as many, that they lie beside edge i's line.
-fn beside(us: &[i64], vs: &[i64], m: usize, i: usize, j: usize) -> bool
-    requires { ⌜ Spread (now us) (now vs) m ⌝ }
-    requires { ⌜ (i < m) × (j < m) × (m ≤ 128) ⌝ }
-    ensures { λ r. ⌜ Beside (now (us .entry)) (now (vs .entry)) i j r ⌝ }
-{
-    if m < j + 8 {
-        return false;
-    }
-    eight_beside(us, vs, m, i, j)
-}
-
 // The same of at most eight edges: most are told apart all at once, by their boxes or because they lie beside edge i's line.
 fn clashes_eight(
     us: &[i64],
@@ -251,7 +251,7 @@ fn clashes_eight(
     if eight_parted(lus, hus, lvs, hvs, i, j) {
         return false;
     }
-    if beside(us, vs, m, i, j) {
+    if lie_beside(us, vs, m, i, j) {
         return false;
     }
     clashes_in(us, vs, lus, hus, lvs, hvs, m, i, j, e)
@@ -364,7 +364,7 @@ fn clash_next(us: &[i64], vs: &[i64], m: usize, i: usize) -> bool
     plane::share_more(plane::edge_at(us, vs, i), plane::edge_at(us, vs, next))
 }
 
-// Whether some edge of m and the next one do: no step of this branches.
+// Whether some edge of m and the next one do, all being looked at: no step of this branches.
 fn clash_nexts(us: &[i64], vs: &[i64], m: usize) -> bool
     requires { ⌜ Spread (now us) (now vs) m ⌝ }
     requires { ⌜ m ≤ 128 ⌝ }
@@ -388,6 +388,21 @@ fn clash_last(us: &[i64], vs: &[i64], m: usize) -> bool
 {
     let last = m - 1;
     plane::share_more(plane::edge_at(us, vs, last), plane::edge_at(us, vs, 0))
+}
+
+// Whether two neighbours among m edges do.
+fn clash_near(us: &[i64], vs: &[i64], m: usize) -> bool
+    requires { ⌜ Spread (now us) (now vs) m ⌝ }
+    requires { ⌜ m ≤ 128 ⌝ }
+    ensures { λ r. ⌜ Nears (now (us .entry)) (now (vs .entry)) m r ⌝ }
+{
+    if clash_nexts(us, vs, m) {
+        return true;
+    }
+    if m < 3 {
+        return false;
+    }
+    clash_last(us, vs, m)
 }
 
 // Where the edges end that are no neighbours of edge i of m, from past the next one on: the last is one of the first.
@@ -446,22 +461,7 @@ fn crossings_past(
     false
 }
 
-// Whether two neighbours among m edges do.
-fn clash_near(us: &[i64], vs: &[i64], m: usize) -> bool
-    requires { ⌜ Spread (now us) (now vs) m ⌝ }
-    requires { ⌜ m ≤ 128 ⌝ }
-    ensures { λ r. ⌜ Nears (now (us .entry)) (now (vs .entry)) m r ⌝ }
-{
-    if clash_nexts(us, vs, m) {
-        return true;
-    }
-    if m < 3 {
-        return false;
-    }
-    clash_last(us, vs, m)
-}
-
-// Whether some two of m edges do: neighbours first, then the others by their boxes.
+// Whether some two of m edges do: neighbours first, then the others by their boxes. What no edge fills is parted from every box.
 pub fn crossings_many(us: &[i64], vs: &[i64], m: usize) -> bool
     requires { ⌜ Spread (now us) (now vs) m ⌝ }
     requires { ⌜ (1 ≤ m) × (m ≤ 128) ⌝ }

@@ -1,8 +1,8 @@
--- `polygon::boxes::beside` meets its contract. Of fewer edges nothing is known.
+-- `polygon::boxes::lie_beside` meets its contract. Of fewer edges nothing is known.
 use borrow.Author.Needs.{needs}
 use Rattle.polygon.proofs.Siding.{beside-unknown}
-use Rattle.polygon.proofs.boxes.beside.Statement.{statement}
-use Rattle.polygon.proofs.boxes.beside.Tie as tie
+use Rattle.polygon.proofs.boxes.lie_beside.Statement.{statement}
+use Rattle.polygon.proofs.boxes.lie_beside.Tie as tie
 
 add-if1 : tie.Need-add-if1
 add-if1 c = search needs
@@ -16,5 +16,5 @@ eight-beside-requires c κs = search needs
 returns-2 : tie.Need-returns-2
 returns-2 c = search needs
 
-pub beside-spec : {M : Type 1} → statement M
-beside-spec = tie.close (tie.spec add-if1 returns eight-beside-requires returns-2)
+pub lie-beside-spec : {M : Type 1} → statement M
+lie-beside-spec = tie.close (tie.spec add-if1 returns eight-beside-requires returns-2)
