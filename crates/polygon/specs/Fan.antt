@@ -59,6 +59,16 @@ every-at t (suc n) i e h = go (decLt i n) (every-at t n i (and-left (every t n) 
     go (yes p) f = f p
     go (no p) f = let z : i ≡ n = omega arith in ap t z ∙ and-right (every t n) (t n) e
 
+-- what fails of some fails of more
+pub every-less : (t : ℕ → Bool) (i n : ℕ) → i ≤ n → every t i ≡ false → every t n ≡ false
+unfolding every
+every-less t i zero h e = let z : i ≡ 0 = omega arith in sym (ap (every t) z) ∙ e
+every-less t i (suc n) h e = go (decLt n i) (λ l. every-less t i n l e)
+  where
+    go : Dec (n < i) → (i ≤ n → every t n ≡ false) → (every t n && t n) ≡ false
+    go (yes p) f = let z : i ≡ suc n = omega arith in sym (ap (every t) z) ∙ e
+    go (no p) f = ap (λ (b : Bool). b && t n) (f (omega arith))
+
 -- ---- what one sign tells
 turned-up : {z : ℤ} → z <ℤ pos 0 → pos 0 <ℤ negℤ z
 turned-up {z} h = lin 1 (λ z. z ≺ k (pos 0) ⇒ k (pos 0) ≺ ⊝ z) (omega arith) z h

@@ -24,7 +24,7 @@ fn side_of(points: &[i32; 1536], a: u16, p: u16, q: u16, j: usize, k: usize) -> 
     plane::side(au, av, pu, pv, qu, qv)
 }
 
-// Whether a ring's places fan out in the plane of coordinates j and k, one way about or the other: no step of this branches.
+// Whether a ring's places fan out in the plane of coordinates j and k, one way about or the other.
 fn fans_in(points: &[i32; 1536], ring: &[u16], j: usize, k: usize) -> bool
     requires { ⌜ Coords (now points) ⌝ }
     requires { ⌜ Known (now ring) ⌝ }
@@ -38,6 +38,9 @@ fn fans_in(points: &[i32; 1536], ring: &[u16], j: usize, k: usize) -> bool
     let mut down = true;
     let mut i: usize = 0;
     while i < n {
+        if !(up | down) {
+            return false;
+        }
         let p = ring[i + 1];
         let q = ring[i + 2];
         let c = side_of(points, first, p, q, j, k);

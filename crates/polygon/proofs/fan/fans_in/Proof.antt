@@ -3,15 +3,17 @@ use native.Mathlib.Omega.{arith}
 use Prim.Native.Nat.{ℕ, _+_, _-_, _≤_}
 use mathlib.Core.Bool.{true, false, _&&_, _||_}
 use mathlib.Core.List.{List}
-use mathlib.Core.Path.{_≡_, refl, ap, ap₂, _∙_}
+use mathlib.Core.Path.{_≡_, refl, sym, ap, ap₂, _∙_}
 use lib.ListN.{length, getD}
 use lib.IntN.{ℤ, pos}
 use lib.Signed.{ltZ}
 use mir.Syntax.{w64}
+use borrow.Author.Tests.{not-true}
 use borrow.Author.Needs.{needs}
+use Rattle.whole.specs.Bools.{or-left, or-right}
 use Rattle.whole.specs.Size.{call-is}
 use Rattle.polygon.specs.Plane.{Spot}
-use Rattle.polygon.specs.Fan.{spotIn, every, fans, every-next}
+use Rattle.polygon.specs.Fan.{spotIn, every, fans, every-next, every-less}
 use Rattle.polygon.proofs.fan.fans_in.Statement.{statement}
 use Rattle.polygon.proofs.fan.fans_in.Tie as tie
 
@@ -38,6 +40,14 @@ loop-holds : tie.Need-loop-holds Inv-loop μ-loop
 unfolding every
 loop-holds c = (omega arith, refl, refl, refl)
 
+returns : tie.Need-returns Inv-loop μ-loop
+returns c =
+    let a = c .before .before .before .before .before .before .args in
+    let l = c .before .before .loop in
+    let none : (l .up || l .down) ≡ false = not-true (l .up || l .down) (c .if1 .taken) in
+    let e : l .i ≤ length (a .ring .now) - 3 = omega (arith, l .inv .0, l .inv .1) in
+    sym (ap₂ _||_ (every-less (fans true (at (a .points .now) (a .ring .now) (a .j) (a .k))) (l .i) (length (a .ring .now) - 3) e (sym (l .inv .2) ∙ or-left (l .up) (l .down) none)) (every-less (fans false (at (a .points .now) (a .ring .now) (a .j) (a .k))) (l .i) (length (a .ring .now) - 3) e (sym (l .inv .3) ∙ or-right (l .up) (l .down) none)))
+
 add-p : tie.Need-add-p Inv-loop μ-loop
 add-p c = search needs
 
@@ -58,14 +68,14 @@ shared-slice-read-q c = search needs
 
 side-of-requires : tie.Need-side-of-requires Inv-loop μ-loop
 side-of-requires c κs =
-    let h = c .before .before .before .before .before .before .before .pre in
-    let l = c .before .before .before .loop in
+    let h = c .before .before .before .before .before .before .before .before .pre in
+    let l = c .before .before .before .before .loop in
     (h .0, (h .1 .0 .each 0 (omega arith), h .1 .0 .each (l .i + 1) (omega (arith, l .inv .1)), h .1 .0 .each (l .i + 2) (omega (arith, l .inv .1)), h .1 .1 .1, h .1 .1 .2))
 
 side-of-requires-2 : tie.Need-side-of-requires-2 Inv-loop μ-loop
 side-of-requires-2 c κs =
-    let h = c .before .before .before .before .before .before .before .before .pre in
-    let l = c .before .before .before .before .loop in
+    let h = c .before .before .before .before .before .before .before .before .before .pre in
+    let l = c .before .before .before .before .before .loop in
     (h .0, (h .1 .0 .each 0 (omega arith), h .1 .0 .each 1 (omega arith), h .1 .0 .each (l .i + 2) (omega (arith, l .inv .1)), h .1 .1 .1, h .1 .1 .2))
 
 add-i : tie.Need-add-i Inv-loop μ-loop
@@ -76,8 +86,8 @@ loop-less c = search needs
 
 loop-again : tie.Need-loop-again Inv-loop μ-loop
 loop-again c =
-    let a = c .before .before .before .before .before .before .before .before .before .args in
-    let l = c .before .before .before .before .before .loop in
+    let a = c .before .before .before .before .before .before .before .before .before .before .args in
+    let l = c .before .before .before .before .before .before .loop in
     let p = call-is w64 (c .before .side-of .ok) (c .before .side-of .ensures) in
     let q = call-is w64 (c .side-of2 .ok) (c .side-of2 .ensures) in (
       omega arith,
@@ -86,8 +96,8 @@ loop-again c =
       (λ t. l .inv .3 t && (ltZ (p t) (pos 0) && ltZ (q t) (pos 0))) ∙ every-next (fans false (at (a .points .now) (a .ring .now) (a .j) (a .k))) (l .i),
     )
 
-returns : tie.Need-returns Inv-loop μ-loop
-returns c =
+returns-2 : tie.Need-returns-2 Inv-loop μ-loop
+returns-2 c =
     let a = c .before .before .before .before .before .args in
     let l = c .before .loop in
     let e : l .i ≡ length (a .ring .now) - 3 = omega (arith, l .inv .0, l .inv .1, c .loop-test .left) in
@@ -103,6 +113,7 @@ fans-in-spec =
     shared-slice-read-first
     shared-slice-read-second
     loop-holds
+    returns
     add-p
     mul-p
     shared-slice-read-p
@@ -114,4 +125,4 @@ fans-in-spec =
     add-i
     loop-less
     loop-again
-    returns)
+    returns-2)
