@@ -196,6 +196,25 @@ inline Model eight_rings() {
     return m;
 }
 
+// A square tower whose points are numbered from the top down and whose floor is polygon 0: a sweep over its edges in their order goes
+// one storey further, so that 0B has to go another way.
+inline Model tower(std::string name, int storeys) {
+    Model m;
+    m.name = std::move(name);
+    const int top = 4 * storeys + 3;
+    for (int z = storeys; z >= 0; z--)
+        for (const auto &[x, y] : {std::pair{0, 1}, std::pair{1, 1}, std::pair{1, 0}, std::pair{0, 0}})
+            m.points.push_back({x * 4000, y * 4000, z * 1500});
+    const auto number = [&](int storey, int side) { return top - 4 * storey - side % 4; };
+    const auto closed = [](int a, int b, int c, int d) { return Ring{a, b, c, d, a}; };
+    m.rings.push_back(closed(number(0, 3), number(0, 2), number(0, 1), number(0, 0)));
+    for (int k = 0; k < storeys; k++)
+        for (int side = 0; side < 4; side++)
+            m.rings.push_back(closed(number(k, side), number(k, side + 1), number(k + 1, side + 1), number(k + 1, side)));
+    m.rings.push_back(closed(number(storeys, 0), number(storeys, 1), number(storeys, 2), number(storeys, 3)));
+    return m;
+}
+
 inline std::vector<Model> nine_buildings() {
     return {tetrahedron(),
             box(),
