@@ -67,6 +67,10 @@ four = 0 ∷ 1 ∷ 2 ∷ 3 ∷ 0 ∷ []
 abbrev pub tilted : ℕ → List Point
 tilted h = place (mm 0) (mm 0) (mm 0) ∷ place (mm 1000) (mm 0) (mm 0) ∷ place (mm 1000) (mm 1000) (mm 0) ∷ place (mm 0) (mm 1000) (mm h) ∷ []
 
+-- "(0,0,0), (1000,0,1000), (1000,1000,1000), (0,1000,21)"
+abbrev pub steep : List Point
+steep = place (mm 0) (mm 0) (mm 0) ∷ place (mm 1000) (mm 0) (mm 1000) ∷ place (mm 1000) (mm 1000) (mm 1000) ∷ place (mm 0) (mm 1000) (mm 21) ∷ []
+
 -- "(0,0), (1000,1000), (1000,0)", and a last corner at (0,h)
 abbrev pub bowTie : ℕ → List Point
 bowTie h = place (mm 0) (mm 0) (mm 0) ∷ place (mm 1000) (mm 1000) (mm 0) ∷ place (mm 1000) (mm 0) (mm 0) ∷ place (mm 0) (mm h) (mm 0) ∷ []
@@ -111,11 +115,12 @@ abbrev pub All : List Example → Type 0
 All [] = Unit {0}
 All (e ∷ es) = Claim e × All es
 
--- the examples marked P; and an open ring, of which turning does not negate the part
+-- the examples marked P, and the ring of request (ii); and an open ring, of which turning does not negate the part
 abbrev pub examples : List Example
 examples =
     ring 10 (tilted 20) four Sound ∷
     ring 10 (tilted 21) four Uneven ∷
+    ring 10 steep four Sound ∷
     ring 0 (bowTie 1000) four NoNormal ∷
     ring 0 (bowTie 2000) four Crossed ∷
     ring 0 corners [] Short ∷
@@ -131,4 +136,4 @@ examples =
 
 pub examples-hold : All examples
 unfolding everything-computes
-examples-hold = (refl, (refl, (refl, (refl, (refl, (refl, (refl, (refl, (refl, (refl, (refl, (refl, (refl, tt)))))))))))))
+examples-hold = (refl, (refl, (refl, (refl, (refl, (refl, (refl, (refl, (refl, (refl, (refl, (refl, (refl, (refl, tt))))))))))))))

@@ -3,7 +3,8 @@ mod Rings
 mod Numbers
 mod Sums
 mod Sizing
-mod Even
+mod Ways
+mod Scaled
 mod Stretches
 mod Pairs
 mod Filled

@@ -1,14 +1,17 @@
 -- Single rings of document 01's examples, so that a slip in the definitions of this crate is refused here.
 use Prim.Native.Nat.{ℕ}
 use mathlib.Core.Path.{_≡_, refl}
+use mathlib.Core.Bool.{true}
 use mathlib.Core.List.{List, [], _∷_}
 use lib.IntN.{ℤ, pos, negsuc}
 use Rattle.whole.specs.Lists.{lists-compute}
 use Rattle.polygon.specs.declared.Axis.the-variants.{X, Y}
 use Rattle.polygon.specs.declared.Finding.the-variants.{Sound, Unclosed, Repeated, NoNormal, Crossed, Uneven}
-use Rattle.polygon.specs.Space.{Point, space-computes}
+use Rattle.polygon.specs.Space.{Point, places, space-computes}
 use Rattle.polygon.specs.Plane.{largestAxis, plane-computes}
-use Rattle.polygon.specs.Ring.{finding, ring-computes}
+use Rattle.polygon.specs.Ring.{normal, finding, ring-computes}
+use Rattle.polygon.specs.Leaves.{largest}
+use Rattle.polygon.specs.Distance.{isUnevenAlong}
 
 abbrev place : ℤ → ℤ → ℤ → Point
 place x y z = record { x = x; y = y; z = z }
@@ -31,6 +34,30 @@ at-the-tolerance = refl
 pub above-the-tolerance : finding 10 (lifted 21) closed ≡ Uneven
 unfolding lists-compute space-computes plane-computes ring-computes
 above-the-tolerance = refl
+
+-- "A ring (0,0,0), (1000,0,1000), (1000,1000,1000), (0,1000,21) at tolerance 10 fails today and passes then."
+abbrev steep : List Point
+steep = place (pos 0) (pos 0) (pos 0) ∷ place (pos 1000) (pos 0) (pos 1000) ∷ place (pos 1000) (pos 1000) (pos 1000) ∷ place (pos 0) (pos 1000) (pos 21) ∷ []
+
+pub steep-passes : finding 10 steep closed ≡ Sound
+unfolding lists-compute space-computes plane-computes ring-computes
+steep-passes = refl
+
+pub steep-failed : isUnevenAlong 10 (normal (places steep closed)) (places steep closed) ≡ true
+unfolding lists-compute space-computes plane-computes ring-computes largest isUnevenAlong
+steep-failed = refl
+
+-- a saddle, its second and fourth corners at a height: all corners are off the plane by just as much
+abbrev saddle : ℕ → List Point
+saddle h = place (pos 0) (pos 0) (pos 0) ∷ place (pos 1000) (pos 0) (pos h) ∷ place (pos 1000) (pos 1000) (pos 0) ∷ place (pos 0) (pos 1000) (pos h) ∷ []
+
+pub saddle-at : finding 10 (saddle 10) closed ≡ Sound
+unfolding lists-compute space-computes plane-computes ring-computes
+saddle-at = refl
+
+pub saddle-above : finding 10 (saddle 11) closed ≡ Uneven
+unfolding lists-compute space-computes plane-computes ring-computes
+saddle-above = refl
 
 pub even-bow-tie : finding 0 (tied 1000) closed ≡ NoNormal
 unfolding lists-compute space-computes plane-computes ring-computes

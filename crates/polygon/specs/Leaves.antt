@@ -1,11 +1,11 @@
 -- What the leaves of the code are about: places as code passes them on, and the bounds of their numbers.
-use Prim.Native.Nat.{ℕ, _+_, _*_, _<_, _≤_}
+use Prim.Native.Nat.{ℕ, _+_, _*_, _<_, _≤_, max}
 use mathlib.Core.Path.{_≡_}
 use mathlib.Core.List.{List, [], map}
 use mathlib.Core.Bool.{cond}
 use lib.ListN.{getD, length}
 use lib.Signed.{ltZ}
-use lib.IntN.{ℤ, pos}
+use lib.IntN.{ℤ, pos, natAbs}
 use Rattle.whole.specs.Size.{Small}
 use Rattle.polygon.specs.declared.Axis.{Axis}
 use Rattle.polygon.specs.declared.Axis.the-variants.{X, Y, Z}
@@ -32,6 +32,10 @@ least p q = cond (ltZ q p) q p
 
 abbrev pub most : ℤ → ℤ → ℤ
 most p q = cond (ltZ q p) p q
+
+-- the largest of the sizes of a point's numbers
+unfoldable pub largest : Point → ℕ
+largest n = max (natAbs (n .x)) (max (natAbs (n .y)) (natAbs (n .z)))
 
 -- a point's numbers are at most n in size
 pub record Near (n : ℕ) (p : Point) : Type 0 where

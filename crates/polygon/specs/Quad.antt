@@ -1,20 +1,20 @@
 -- A closed ring of five entries: N is the sum of two cross products, and of 06 there is one number to try, since N is at right
 -- angles to the way to the third corner, and the second and the fourth are equally far off.
-use Prim.Native.Nat.{ℕ, _*_}
+use Prim.Native.Nat.{ℕ}
 use native.Mathlib.Omega.{arith}
 use mathlib.Core.Path.{_≡_, refl, sym, ap, ap₂, _∙_}
 use mathlib.Core.Bool.{Bool, true, false}
 use mathlib.Core.List.{List, [], _∷_}
 use borrow.Author.Tests.{eqb-true, not-false}
-use lib.Dec.{eqb, ltb}
+use lib.Dec.{eqb}
 use lib.ListN.{length, getD}
-use lib.IntN.{ℤ, pos, natAbs, _+ℤ_, _-ℤ_, _*ℤ_}
+use lib.IntN.{ℤ, pos, _+ℤ_, _-ℤ_, _*ℤ_}
 use Rattle.whole.specs.Solve.{k, _⊕_, _⊖_, _⊗_, ring, _≔_}
 use Rattle.whole.specs.Lists.{any, steps, stepsFrom, lastOf}
 use Rattle.whole.specs.Search.{any-here, any-next}
 use Rattle.whole.specs.All.{none, more, none-any}
 use Rattle.polygon.specs.Space.{Point, origin, plus, relativeTo, cross, dot, places}
-use Rattle.polygon.specs.Ring.{isUnclosed, relative, normal, size, isUneven}
+use Rattle.polygon.specs.Ring.{isUnclosed, relative, normal, exceeds, isUneven}
 use Rattle.polygon.specs.Leaves.{at}
 use Rattle.polygon.specs.Triangle.{upright-own, within, far}
 
@@ -82,7 +82,7 @@ module _ (a b c d : Point) where
       second-only (far tolerance n) (relativeTo a a) p q r
       (within tolerance n (relativeTo a a) (upright-own n a))
       (within tolerance n q (upright-third p q r))
-      (ap (λ (z : ℤ). ltb (tolerance * size n) (natAbs z)) (alike p q r))
+      (ap (exceeds tolerance n) (alike p q r))
 
 -- ---- a closed ring of five entries
 ring-four : (ring : List ℕ) → length ring ≡ 5 → isUnclosed ring ≡ false → ring ≡ square (getD ring 0 0) (getD ring 1 0) (getD ring 2 0) (getD ring 3 0)
@@ -112,8 +112,8 @@ module _ (points : List Point) (ring : List ℕ) (five : length ring ≡ 5) (clo
   quad-normal = ap normal places-four ∙ normal-is (place-of 0) (place-of 1) (place-of 2) (place-of 3)
 
   -- 06 is told by the second corner alone
-  pub quad-uneven : (tolerance : ℕ) → isUneven tolerance (normal ps) ps ≡ ltb (tolerance * size (normal ps)) (natAbs (dot (normal ps) (relativeTo (place-of 0) (place-of 1))))
+  pub quad-uneven : (tolerance : ℕ) → isUneven tolerance (normal ps) ps ≡ exceeds tolerance (normal ps) (dot (normal ps) (relativeTo (place-of 0) (place-of 1)))
   quad-uneven tolerance =
       ap₂ (isUneven tolerance) quad-normal places-four
       ∙ uneven-is (place-of 0) (place-of 1) (place-of 2) (place-of 3) tolerance
-      ∙ ap (λ (n : Point). ltb (tolerance * size n) (natAbs (dot n (relativeTo (place-of 0) (place-of 1))))) (sym quad-normal)
+      ∙ ap (λ (n : Point). exceeds tolerance n (dot n (relativeTo (place-of 0) (place-of 1)))) (sym quad-normal)

@@ -1,17 +1,17 @@
 -- One ring: checks 01 to 06 and its part of the six-volume.
-use Prim.Native.Nat.{ℕ, zero, suc, _*_, max}
+use Prim.Native.Nat.{ℕ, suc}
 use mathlib.Core.Bool.{Bool, true, false, not, _&&_, _||_}
 use mathlib.Core.List.{List, [], _∷_, map, foldr}
-use mathlib.Core.Option.{Option, none, some}
 use lib.Dec.{eqb, ltb}
 use lib.ListN.{length}
-use lib.IntN.{ℤ, pos, natAbs}
-use Rattle.whole.specs.Lists.{given, first, any, anyTwo, steps, front, lastOf, numbered, sumOf, lists, sameZ}
+use lib.IntN.{ℤ, pos, _+ℤ_, _*ℤ_}
+use lib.Signed.{ltZ}
+use Rattle.whole.specs.Lists.{given, first, any, anyTwo, steps, front, lastOf, numbered, sumOf, sameZ}
 use Rattle.polygon.specs.declared.Axis.{Axis}
 use Rattle.polygon.specs.declared.Finding.{Finding}
 use Rattle.polygon.specs.declared.Finding.the-variants.{Sound, Short, Unclosed, Repeated, NoNormal, Crossed, Uneven}
 use Rattle.polygon.specs.Space.{Point, origin, plus, relativeTo, cross, dot, determinant, places}
-use Rattle.polygon.specs.Plane.{largestAxis, Spot, dropAxis, Segment, share, shareMore}
+use Rattle.polygon.specs.Plane.{largestAxis, dropAxis, Segment, share, shareMore}
 
 -- the column No.
 unfoldable pub findingNumber : Finding → ℕ
@@ -69,13 +69,20 @@ edgesIn axis ps = steps (map (dropAxis axis) ps)
 unfoldable pub isCrossed : List Segment → Bool
 isCrossed es = anyTwo (forbidden (length es)) (numbered es)
 
--- "the largest size of N's components"
-unfoldable pub size : Point → ℕ
-size n = max (natAbs (n .x)) (max (natAbs (n .y)) (natAbs (n .z)))
+unfoldable pub square : ℤ → ℤ
+square z = z *ℤ z
 
--- 06: "for some point p, the size of N·(p - first) exceeds tolerance times the largest size of N's components"
+-- "the sum of the squares of N's components"
+unfoldable pub squares : Point → ℤ
+squares n = square (n .x) +ℤ square (n .y) +ℤ square (n .z)
+
+-- "the square of N·(p - first) exceeds tolerance squared times the sum of the squares of N's components", d being N·(p - first)
+unfoldable pub exceeds : ℕ → Point → ℤ → Bool
+exceeds tolerance n d = ltZ (square (pos tolerance) *ℤ squares n) (square d)
+
+-- 06: "for some point p"
 unfoldable pub isUneven : ℕ → Point → List Point → Bool
-isUneven tolerance n ps = any (λ p. ltb (tolerance * size n) (natAbs (dot n p))) (relative ps)
+isUneven tolerance n ps = any (λ p. exceeds tolerance n (dot n p)) (relative ps)
 
 -- "A polygon's finding is the first of checks 01 to 06 that fails."
 unfoldable pub finding : ℕ → List Point → List ℕ → Finding
@@ -101,5 +108,5 @@ unfoldable pub part : List Point → List ℕ → ℤ
 part points ring = partAbout (places points ring)
 
 unfoldable pub ring-computes : Unit {0}
-unfolding findingNumber isShort isUnclosed isRepeated relative normal isZero follows forbidden edgesIn isCrossed size isUneven finding partAbout part
+unfolding findingNumber isShort isUnclosed isRepeated relative normal isZero follows forbidden edgesIn isCrossed square squares exceeds isUneven finding partAbout part
 ring-computes = tt

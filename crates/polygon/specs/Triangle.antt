@@ -1,13 +1,13 @@
 -- A ring of four entries that passes 01 to 04 passes 05 and 06. Closed, it has three edges, each a neighbour of the other two;
 -- how far one turns off another in the plane that is left is N's component on the axis that is dropped, which is not 0
 -- since N is largest there; and all three points lie in one plane with the first.
-use Prim.Native.Nat.{ℕ, zero, suc, _≤_, _*_, max}
+use Prim.Native.Nat.{ℕ, zero, suc, _≤_, max}
 use native.Mathlib.Omega.{arith}
 use mathlib.Core.Path.{_≡_, refl, sym, ap, ap₂, _∙_, subst}
 use mathlib.Core.Bool.{Bool, true, false, _&&_, true≢false}
 use mathlib.Core.List.{List, [], _∷_}
-use borrow.Author.Tests.{le-ltb, leb-true, leb-false, eqb-true, not-false}
-use lib.Dec.{eqb, leb, ltb}
+use borrow.Author.Tests.{leb-true, leb-false, eqb-true, not-false}
+use lib.Dec.{eqb, leb}
 use lib.ListN.{length, getD}
 use lib.IntN.{ℤ, pos, negsuc, natAbs, _+ℤ_, _-ℤ_, _*ℤ_}
 use Rattle.whole.specs.Solve.{k, _⊕_, _⊖_, _⊗_, ring, _≔_}
@@ -18,9 +18,10 @@ use Rattle.polygon.specs.declared.Axis.{Axis}
 use Rattle.polygon.specs.declared.Axis.the-variants.{X, Y, Z}
 use Rattle.polygon.specs.Space.{Point, origin, plus, relativeTo, cross, dot, places}
 use Rattle.polygon.specs.Plane.{largestAxis, Spot, dropAxis, side, turnOff, shareMore}
-use Rattle.polygon.specs.Ring.{isUnclosed, isRepeated, relative, normal, isZero, follows, forbidden, edgesIn, isCrossed, size, isUneven}
+use Rattle.polygon.specs.Ring.{isUnclosed, isRepeated, relative, normal, isZero, follows, forbidden, edgesIn, isCrossed, exceeds, isUneven}
 use Rattle.polygon.specs.Laws.{axis-x, axis-y, axis-z}
-use Rattle.polygon.specs.Leaves.{at, on}
+use Rattle.polygon.specs.Leaves.{at, on, largest}
+use Rattle.polygon.specs.Distance.{exceeds-none}
 
 -- three, and the first again
 abbrev round : {A : Type 0} → A → A → A → List A
@@ -110,8 +111,8 @@ module _ (a b c : Point) where
 
 -- ---- N is not 0 where it is largest
 -- its component on the drop axis is as large as any
-largest-is : (n : Point) → size n ≤ natAbs (on (largestAxis n) n)
-unfolding size
+largest-is : (n : Point) → largest n ≤ natAbs (on (largestAxis n) n)
+unfolding largest
 largest-is n = go (leb y x) (leb z x) (leb z y) refl refl refl
   where
     x : ℕ
@@ -144,8 +145,8 @@ unfolding sameZ
 none-above (pos n) e = eqb-true n 0 e
 none-above (negsuc n) e = absurd (true≢false (sym e))
 
-all-zero : (n : Point) → size n ≤ 0 → isZero n ≡ true
-unfolding size isZero
+all-zero : (n : Point) → largest n ≤ 0 → isZero n ≡ true
+unfolding largest isZero
 all-zero n h = rw (zero-of (n .x) (omega arith), zero-of (n .y) (omega arith), zero-of (n .z) (omega arith))
 
 -- so where N is not 0, that component is not
@@ -180,10 +181,10 @@ upright-other p q = go (p .x) (p .y) (p .z) (q .x) (q .y) (q .z)
 
 -- which exceeds no tolerance
 abbrev pub far : ℕ → Point → Point → Bool
-far tolerance n p = ltb (tolerance * size n) (natAbs (dot n p))
+far tolerance n p = exceeds tolerance n (dot n p)
 
 pub within : (tolerance : ℕ) (n p : Point) → dot n p ≡ pos 0 → far tolerance n p ≡ false
-within tolerance n p e = ap (λ (z : ℤ). ltb (tolerance * size n) (natAbs z)) e ∙ le-ltb (tolerance * size n) 0 (omega arith)
+within tolerance n p e = ap (exceeds tolerance n) e ∙ exceeds-none tolerance n
 
 -- ---- the two checks, of three points and the first again
 module _ (a b c : Point) where

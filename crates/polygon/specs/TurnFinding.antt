@@ -1,22 +1,23 @@
 -- Turning never changes a finding.
-use Prim.Native.Nat.{ℕ, zero, suc, _+_, _*_, _-_, _<_, max}
+use Prim.Native.Nat.{ℕ, _<_}
 use mathlib.Core.Path.{_≡_, refl, sym, ap, ap₂, _∙_}
-use mathlib.Core.Bool.{Bool, true, false, not, cond, _&&_}
-use mathlib.Core.List.{List, [], _∷_, _++_, map, foldr, reverse, reverseAux}
+use mathlib.Core.Bool.{Bool, true, false, not, cond}
+use mathlib.Core.List.{List, [], _∷_, map, foldr, reverse, reverseAux}
 use borrow.Author.Tests.{not-false, eqb-true, eq-eqb}
-use lib.Dec.{eqb, ltb, leb}
+use lib.Dec.{eqb, ltb}
 use lib.ListN.{length, getD, length-reverse, length-map}
-use lib.IntN.{ℤ, pos, negsuc, negℤ, natAbs, _+ℤ_, _-ℤ_, _*ℤ_}
+use lib.IntN.{ℤ, pos, negℤ, _+ℤ_, _-ℤ_, _*ℤ_}
+use lib.Signed.{ltZ}
 use Rattle.whole.specs.Size.{abs-neg}
-use Rattle.whole.specs.Solve.{E, v, k, _⊕_, _⊖_, _⊗_, ⊝_, ring, _≔_}
-use Rattle.whole.specs.Lists.{given, first, any, anyTwo, steps, front, lastOf, numbered, sumOf, sameZ}
+use Rattle.whole.specs.Solve.{_⊕_, _⊖_, _⊗_, ⊝_, ring, _≔_}
+use Rattle.whole.specs.Lists.{given, first, any, anyTwo, steps, lastOf, numbered, sumOf}
 use Rattle.whole.specs.Reverse.{any-reverse, anyTwo-reverse, anyTwo-map, anyTwo-same, counted, numbered-reverse, numbered-below, back, steps-reverse, anyTwo-turned, map-reverseAux}
 use Rattle.polygon.specs.Space.{Point, origin, plus, relativeTo, cross, dot, places}
 use Rattle.polygon.specs.declared.Axis.{Axis}
 use Rattle.polygon.specs.declared.Finding.{Finding}
 use Rattle.polygon.specs.declared.Finding.the-variants.{Sound, Short, Unclosed, Repeated, NoNormal, Crossed, Uneven}
 use Rattle.polygon.specs.Plane.{largestAxis, Spot, dropAxis, Segment}
-use Rattle.polygon.specs.Ring.{isShort, isUnclosed, isRepeated, relative, normal, isZero, forbidden, edgesIn, isCrossed, size, isUneven, finding}
+use Rattle.polygon.specs.Ring.{isShort, isUnclosed, isRepeated, relative, normal, isZero, forbidden, edgesIn, isCrossed, square, squares, exceeds, isUneven, finding}
 use Rattle.polygon.specs.Laws.{eqb-sym}
 use Rattle.polygon.specs.Turn.{sum-reverse, firstOf, first-reverseAux, last-map}
 use Rattle.polygon.specs.PlaneTurn.{zero-neg, forbidden-back}
@@ -34,13 +35,17 @@ largestAxis-opposite : (n : Point) → largestAxis (opposite n) ≡ largestAxis 
 unfolding largestAxis opposite
 largestAxis-opposite n = rw (abs-neg (n .x), abs-neg (n .y), abs-neg (n .z))
 
-size-opposite : (n : Point) → size (opposite n) ≡ size n
-unfolding size opposite
-size-opposite n = rw (abs-neg (n .x), abs-neg (n .y), abs-neg (n .z))
+square-opposite : (z : ℤ) → square (negℤ z) ≡ square z
+unfolding square
+square-opposite = ring 1 (λ z. ⊝ z ⊗ ⊝ z ≔ z ⊗ z) tt
 
-dot-opposite : (n p : Point) → natAbs (dot (opposite n) p) ≡ natAbs (dot n p)
+squares-opposite : (n : Point) → squares (opposite n) ≡ squares n
+unfolding squares opposite
+squares-opposite n = rw (square-opposite (n .x), square-opposite (n .y), square-opposite (n .z))
+
+dot-opposite : (n p : Point) → square (dot (opposite n) p) ≡ square (dot n p)
 unfolding dot opposite
-dot-opposite n p = ap natAbs (go (n .x) (n .y) (n .z) (p .x) (p .y) (p .z)) ∙ abs-neg (dot n p)
+dot-opposite n p = ap square (go (n .x) (n .y) (n .z) (p .x) (p .y) (p .z)) ∙ square-opposite (dot n p)
   where
     go : (a b c d e f : ℤ) → negℤ a *ℤ d +ℤ negℤ b *ℤ e +ℤ negℤ c *ℤ f ≡ negℤ (a *ℤ d +ℤ b *ℤ e +ℤ c *ℤ f)
     go = ring 6 (λ a b c d e f. ⊝ a ⊗ d ⊕ ⊝ b ⊗ e ⊕ ⊝ c ⊗ f ≔ ⊝ (a ⊗ d ⊕ b ⊗ e ⊕ c ⊗ f)) tt
@@ -94,11 +99,11 @@ module _ (a : Point) (l : List Point) (closed : lastOf a l ≡ a) where
   normal-turned = ap (λ (ps : List Point). crosses (steps ps)) relative-turned ∙ crosses-reverse (relative (a ∷ l))
 
   uneven-turned : (tolerance : ℕ) (n : Point) → isUneven tolerance (opposite n) (reverse (a ∷ l)) ≡ isUneven tolerance n (a ∷ l)
-  unfolding isUneven
+  unfolding isUneven exceeds
   uneven-turned tolerance n =
-      ap (any (λ p. ltb (tolerance * size (opposite n)) (natAbs (dot (opposite n) p)))) relative-turned
-      ∙ any-reverse (λ p. ltb (tolerance * size (opposite n)) (natAbs (dot (opposite n) p))) (relative (a ∷ l))
-      ∙ ap (λ (t : Point → Bool). any t (relative (a ∷ l))) (λ i p. ltb (tolerance * size-opposite n i) (dot-opposite n p i))
+      ap (any (λ p. exceeds tolerance (opposite n) (dot (opposite n) p))) relative-turned
+      ∙ any-reverse (λ p. exceeds tolerance (opposite n) (dot (opposite n) p)) (relative (a ∷ l))
+      ∙ ap (λ (t : Point → Bool). any t (relative (a ∷ l))) (λ i p. ltZ (square (pos tolerance) *ℤ squares-opposite n i) (dot-opposite n p i))
 
 -- ---- edges
 

@@ -20,7 +20,7 @@ pub fn coordinate(points: &[i32; 1536], p: u16, k: usize) -> i64
     ensures { λ r. ⌜ r ≡ getD (now (points .entry)) (3 * p + k) (pos 0) ⌝ }
 {
     let i = 3 * (p as usize) + k;
-    space::wide(points[i])
+    space::long(points[i])
 }
 
 // Coordinate k of the ring's entries, one after another, into lent room.

@@ -1,5 +1,6 @@
 // Rings of three and of four corners, without a loop: the normal, and check 06 of four.
 use super::Place;
+use super::even;
 use super::space;
 ghost use mathlib.Core.Path.{_≡_};
 ghost use mathlib.Core.Bool.{false};
@@ -58,10 +59,9 @@ fn is_bent(points: &[i32; 1536], ring: &[u16], tolerance: u16, n: Place) -> bool
     requires { ⌜ asPoint n ≡ normal (places (pointsOf (now points)) (now ring)) ⌝ }
     ensures { λ r. ⌜ r ≡ isUneven tolerance (asPoint n) (places (pointsOf (now (points .entry))) (now (ring .entry))) ⌝ }
 {
-    let limit = space::allowed(tolerance, n);
     let first = ring[0];
     let second = ring[1];
-    space::is_off(points, n, first, second, limit)
+    even::is_far(points, n, tolerance, first, second)
 }
 
 // 06 of a closed ring whose normal is n.
@@ -75,5 +75,5 @@ pub fn is_uneven(points: &[i32; 1536], ring: &[u16], tolerance: u16, n: Place) -
     if ring.len() == 5 {
         return is_bent(points, ring, tolerance, n);
     }
-    space::is_uneven(points, ring, tolerance, n)
+    even::is_uneven(points, ring, tolerance, n)
 }

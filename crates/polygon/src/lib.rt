@@ -3,6 +3,7 @@
 mod boxes;
 mod columns;
 mod corners;
+mod even;
 mod fan;
 mod plane;
 mod space;
@@ -147,7 +148,7 @@ fn third_on(points: &[i32; 1536], ring: &[u16], tolerance: u16, n: Place) -> Fin
     if columns::is_crossed(points, ring, space::largest_axis(n)) {
         return Finding::Crossed;
     }
-    if space::is_uneven(points, ring, tolerance, n) {
+    if even::is_uneven(points, ring, tolerance, n) {
         return Finding::Uneven;
     }
     Finding::Sound

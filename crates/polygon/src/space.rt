@@ -1,20 +1,17 @@
-// Places and ways in space: the determinant, the normal, checks 04 and 06.
+// Places and ways in space: the determinant, the normal, check 04.
 use super::Axis;
 use super::Place;
 ghost use mathlib.Core.Path.{_≡_};
 ghost use Prim.Native.Nat.{_*_, _<_, _≤_};
 ghost use lib.ListN.{length};
-ghost use lib.IntN.{pos, natAbs};
-ghost use lib.Signed.{ltZ};
-ghost use Rattle.whole.specs.Size.{Small};
 ghost use Rattle.polygon.specs.Space.{determinant, relativeTo, cross, dot, places};
 ghost use Rattle.polygon.specs.Plane.{largestAxis};
-ghost use Rattle.polygon.specs.Ring.{normal, isZero, size, isUneven};
+ghost use Rattle.polygon.specs.Ring.{normal, isZero};
 ghost use Rattle.polygon.specs.Held.{pointsOf, placeAt, Coords, Known};
 ghost use Rattle.polygon.specs.Leaves.{asPoint, rowOf, Rows, Nine, Near, at, least, most};
 
 // A coordinate as it is reckoned with; it is held in half the room.
-pub fn wide(x: i32) -> i64
+pub fn long(x: i32) -> i64
     ensures { λ r. ⌜ r ≡ x ⌝ }
 {
     x as i64
@@ -27,9 +24,9 @@ pub fn place_of(points: &[i32; 1536], p: u16) -> Place
     ensures { λ r. ⌜ asPoint r ≡ placeAt (now (points .entry)) p ⌝ }
 {
     let i = 3 * (p as usize);
-    let x = wide(points[i]);
-    let y = wide(points[i + 1]);
-    let z = wide(points[i + 2]);
+    let x = long(points[i]);
+    let y = long(points[i + 1]);
+    let z = long(points[i + 2]);
     Place { x, y, z }
 }
 
@@ -171,14 +168,6 @@ pub fn is_zero(n: Place) -> bool
     (x == 0) & (y == 0) & (z == 0)
 }
 
-// The size of a number.
-fn size(z: i64) -> i64
-    requires { ⌜ Small 9000000000000000000 z ⌝ }
-    ensures { λ r. ⌜ r ≡ pos (natAbs z) ⌝ }
-{
-    if z < 0 { -z } else { z }
-}
-
 // The larger of two numbers, and the smaller.
 pub fn upper(p: i64, q: i64) -> i64
     ensures { λ r. ⌜ r ≡ most p q ⌝ }
@@ -192,17 +181,6 @@ pub fn lower(p: i64, q: i64) -> i64
     if q < p { q } else { p }
 }
 
-// "the largest size of N's components"
-fn largest(n: Place) -> i64
-    requires { ⌜ Near 10160000000000 (asPoint n) ⌝ }
-    ensures { λ r. ⌜ r ≡ pos (size (asPoint n)) ⌝ }
-{
-    let x = n.x;
-    let y = n.y;
-    let z = n.z;
-    upper(size(x), upper(size(y), size(z)))
-}
-
 // "the axis where N is largest in size (ties: x, then y)"
 pub fn largest_axis(n: Place) -> Axis
     requires { ⌜ Near 10160000000000 (asPoint n) ⌝ }
@@ -211,9 +189,9 @@ pub fn largest_axis(n: Place) -> Axis
     let x = n.x;
     let y = n.y;
     let z = n.z;
-    let a = size(x);
-    let b = size(y);
-    let c = size(z);
+    let a = wide::size(x);
+    let b = wide::size(y);
+    let c = wide::size(z);
     if (b <= a) & (c <= a) {
         return Axis::X;
     }
@@ -221,43 +199,4 @@ pub fn largest_axis(n: Place) -> Axis
         return Axis::Y;
     }
     Axis::Z
-}
-
-// "tolerance times the largest size of N's components"
-pub fn allowed(tolerance: u16, n: Place) -> i64
-    requires { ⌜ tolerance ≤ 1000 ⌝ }
-    requires { ⌜ Near 10160000000000 (asPoint n) ⌝ }
-    ensures { λ r. ⌜ r ≡ pos (tolerance * size (asPoint n)) ⌝ }
-{
-    (tolerance as i64) * largest(n)
-}
-
-// Whether the size of N·(p - first) exceeds a limit.
-pub fn is_off(points: &[i32; 1536], n: Place, first: u16, p: u16, limit: i64) -> bool
-    requires { ⌜ Coords (now points) ⌝ }
-    requires { ⌜ (first < 512) × (p < 512) ⌝ }
-    requires { ⌜ Near 10160000000000 (asPoint n) ⌝ }
-    ensures { λ r. ⌜ r ≡ ltZ limit (pos (natAbs (dot (asPoint n) (relativeTo (placeAt (now (points .entry)) first) (placeAt (now (points .entry)) p))))) ⌝ }
-{
-    size(dot(n, toward(points, first, p))) > limit
-}
-
-// 06: "for some point p, the size of N·(p - first) exceeds tolerance times the largest size of N's components"
-pub fn is_uneven(points: &[i32; 1536], ring: &[u16], tolerance: u16, n: Place) -> bool
-    requires { ⌜ Coords (now points) ⌝ }
-    requires { ⌜ Known (now ring) ⌝ }
-    requires { ⌜ (1 ≤ length (now ring)) × (tolerance ≤ 1000) ⌝ }
-    requires { ⌜ Near 10160000000000 (asPoint n) ⌝ }
-    ensures { λ r. ⌜ r ≡ isUneven tolerance (asPoint n) (places (pointsOf (now (points .entry))) (now (ring .entry))) ⌝ }
-{
-    let limit = allowed(tolerance, n);
-    let first = ring[0];
-    let mut i: usize = 0;
-    while i < ring.len() {
-        if is_off(points, n, first, ring[i], limit) {
-            return true;
-        }
-        i += 1;
-    }
-    false
 }

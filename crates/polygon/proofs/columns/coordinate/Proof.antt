@@ -13,20 +13,20 @@ mul-i c = search needs
 add-i : tie.Need-add-i
 add-i c = search needs
 
-mul-wide : tie.Need-mul-wide
-mul-wide c = search needs
+mul-long : tie.Need-mul-long
+mul-long c = search needs
 
-element-copy-out-wide : tie.Need-element-copy-out-wide
-element-copy-out-wide c = search needs
+element-copy-out-long : tie.Need-element-copy-out-long
+element-copy-out-long c = search needs
 
-wide-requires : tie.Need-wide-requires
-wide-requires c κs = search needs
+long-requires : tie.Need-long-requires
+long-requires c κs = search needs
 
 returns : tie.Need-returns
 returns c =
     let s = c .before .before in
-    call-is w64 (c .wide .ok) (c .wide .ensures ∙ small-back w32 tt (s .pre .0 .small (3 * s .args .p + s .args .k)))
+    call-is w64 (c .long .ok) (c .long .ensures ∙ small-back w32 tt (s .pre .0 .small (3 * s .args .p + s .args .k)))
 
 pub coordinate-spec : {M : Type 1} → statement M
 coordinate-spec =
-    tie.close (tie.spec mul-i add-i mul-wide element-copy-out-wide wide-requires returns)
+    tie.close (tie.spec mul-i add-i mul-long element-copy-out-long long-requires returns)

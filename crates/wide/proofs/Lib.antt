@@ -1,0 +1,2 @@
+mod Columns
+mod Sizing
