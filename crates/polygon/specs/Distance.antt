@@ -24,10 +24,10 @@ unfolding square
 square-abs (pos n) = refl
 square-abs (negsuc n) = refl
 
-abbrev sumOf : Point → ℕ
+abbrev pub sumOf : Point → ℕ
 sumOf n = natAbs (n .x) * natAbs (n .x) + natAbs (n .y) * natAbs (n .y) + natAbs (n .z) * natAbs (n .z)
 
-squares-abs : (n : Point) → squares n ≡ pos (sumOf n)
+pub squares-abs : (n : Point) → squares n ≡ pos (sumOf n)
 unfolding squares
 squares-abs n = λ i. square-abs (n .x) i +ℤ square-abs (n .y) i +ℤ square-abs (n .z) i
 
@@ -69,14 +69,17 @@ either a b P p q = go (decLe a b)
 largest-square : (a b c : ℕ) → max a (max b c) * max a (max b c) ≤ a * a + b * b + c * c
 largest-square a b c = either a (max b c) (λ m. m * m ≤ a * a + b * b + c * c) (omega arith) (either b c (λ m. m * m ≤ a * a + b * b + c * c) (omega arith) (omega arith))
 
+pub largest-squares : (n : Point) → largest n * largest n ≤ sumOf n
+unfolding largest
+largest-squares n = largest-square (natAbs (n .x)) (natAbs (n .y)) (natAbs (n .z))
+
 -- a size within tolerance times the largest component exceeds no limit
 pub settled : (t : ℕ) (n : Point) (d : ℤ) → natAbs d ≤ t * largest n → exceeds t n d ≡ false
-unfolding largest
 settled t n d h =
     exceeds-abs t n d
     ∙ le-ltb (t * t * sumOf n) (natAbs d * natAbs d)
     (le-trans (mul-le-mul h h)
-    (le-trans (le-of-eq (mul-mul-mul-comm t (largest n) t (largest n))) (mul-le-mul-left (t * t) (largest-square (natAbs (n .x)) (natAbs (n .y)) (natAbs (n .z))))))
+    (le-trans (le-of-eq (mul-mul-mul-comm t (largest n) t (largest n))) (mul-le-mul-left (t * t) (largest-squares n))))
 
 -- nor does a point of the plane
 pub exceeds-none : (t : ℕ) (n : Point) → exceeds t n (pos 0) ≡ false

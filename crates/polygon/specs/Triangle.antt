@@ -145,7 +145,7 @@ unfolding sameZ
 none-above (pos n) e = eqb-true n 0 e
 none-above (negsuc n) e = absurd (true≢false (sym e))
 
-all-zero : (n : Point) → largest n ≤ 0 → isZero n ≡ true
+pub all-zero : (n : Point) → largest n ≤ 0 → isZero n ≡ true
 unfolding largest isZero
 all-zero n h = rw (zero-of (n .x) (omega arith), zero-of (n .y) (omega arith), zero-of (n .z) (omega arith))
 
