@@ -139,6 +139,19 @@ bool crosses_itself(const std::vector<Flat> &corner) {
     return false;
 }
 
+// Two machine words as one number, which ISO C++ has no name for. Squares here are below 2^126.
+__extension__ typedef unsigned __int128 Wide;
+
+Wide square(std::int64_t value) {
+    const Wide size = static_cast<Wide>(std::abs(value));
+    return size * size;
+}
+
+// Whether a point is further from the plane than the tolerance; `off` is N·(p - first). No root is taken and nothing is rounded.
+bool is_uneven(std::int64_t off, Point normal, std::int64_t tolerance) {
+    return square(off) > square(tolerance) * (square(normal.x) + square(normal.y) + square(normal.z));
+}
+
 std::int64_t determinant(const std::array<Point, 3> &row) { return dot(row[0], cross(row[1], row[2])); }
 
 // ---- the building -------------------------------------------------------------------------------------------------
@@ -181,9 +194,8 @@ class Building {
         corner.reserve(ring.size());
         for (auto entry : ring) corner.push_back(flatten(points[entry], normal));
         if (crosses_itself(corner)) return 5;
-        const auto largest = std::max({std::abs(normal.x), std::abs(normal.y), std::abs(normal.z)});
         for (auto entry : ring)
-            if (std::abs(dot(normal, points[entry] - first)) > tolerance * largest) return 6;
+            if (is_uneven(dot(normal, points[entry] - first), normal, tolerance)) return 6;
         return 0;
     }
 
