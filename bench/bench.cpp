@@ -1,4 +1,4 @@
-// Times the checker beside the baselines on nine buildings, in one run, whole and by stages, and measures the stack. No time is
+// Times the checker beside the baselines on ten buildings, in one run, whole and by stages, and measures the stack. No time is
 // printed unless all agree on every answer byte of every stream that is timed. Usage: bench NAME [samples], NAME of what is linked.
 // The AVX-512 baseline takes part where it is built in (WITH_AVX512): it is timed on loads alone, since it keeps nothing.
 #include "baselines.h"
@@ -266,7 +266,7 @@ int main(int argc, char **argv) {
     const int samples = argc > 2 ? std::max(3, std::atoi(argv[2])) : 301;
     std::vector<Case> loads, corrected, balls, roofs, towers, every;
     std::vector<Stages> by_stage;
-    for (const auto &m : streams::nine_buildings()) {
+    for (const auto &m : streams::ten_buildings()) {
         by_stage.push_back(make_stages(m));
         loads.push_back(make_case(m, false));
         corrected.push_back(make_case(m, true));

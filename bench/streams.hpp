@@ -1,4 +1,4 @@
-// Buildings and streams for the benchmark, the tests and the fuzz seeds: the nine buildings that are timed, and a generator of
+// Buildings and streams for the benchmark, the tests and the fuzz seeds: the ten buildings that are timed, and a generator of
 // random and damaged streams from a number.
 #ifndef FRAMECHECK_STREAMS_HPP
 #define FRAMECHECK_STREAMS_HPP
@@ -8,6 +8,7 @@
 #include <cmath>
 #include <cstdint>
 #include <cstdio>
+#include <cstdlib>
 #include <map>
 #include <string>
 #include <utility>
@@ -215,7 +216,29 @@ inline Model tower(std::string name, int storeys) {
     return m;
 }
 
-inline std::vector<Model> nine_buildings() {
+// A round house of `corners` corners under two steep roofs, each over half of it, that meet in a falling ridge. They slope by 0.95
+// along x and along y, and their corners off the ridge stand `off` above or below the plane in turn: along z, where N is largest, as
+// much as that, by true distance about 0.6 of it. Walls stay flat, since corners leave their places along z only.
+inline Model steep_roofs(std::string name, int corners, int radius, int off) {
+    Model m = prism(std::move(name), star(corners, radius, radius), 2 * radius);
+    const int ridge = corners / 2;
+    Ring roof, other;
+    for (int i = 0; i < corners; i++) {
+        auto &p = m.points[static_cast<std::size_t>(corners + i)];
+        p[2] += (p[0] - std::abs(p[1])) * 19 / 20 + (i % ridge == 0 ? 0 : i % 2 == 0 ? off : -off);
+    }
+    for (int i = 0; i <= ridge; i++) {
+        roof.push_back(corners + i);
+        other.push_back(corners + (ridge + i) % corners);
+    }
+    roof.push_back(roof[0]);
+    other.push_back(other[0]);
+    m.rings[1] = roof;
+    m.rings.push_back(other);
+    return m;
+}
+
+inline std::vector<Model> ten_buildings() {
     return {tetrahedron(),
             box(),
             gabled_house(),
@@ -224,7 +247,8 @@ inline std::vector<Model> nine_buildings() {
             ball("ball, 256 triangles", 8, 16),
             prism("60-gon prism", star(60, 20000, 20000), 9000),
             prism("127-gon prism", star(127, 50000, 50000), 9000, 44),
-            eight_rings()};
+            eight_rings(),
+            steep_roofs("steep roofs of 40", 78, 9000, 13)};
 }
 
 // The load, then 50 moves by a millimetre, 50 turns (there and back) and 200 questions.
@@ -346,6 +370,39 @@ inline Model scribble(Random &r) {
     return m;
 }
 
+// A ring on the plane of direction (a, b, c), its corners in the plane and `lifted` times that direction off it in turn, so that N is
+// the plane's own. The axes come in any order and either direction.
+inline void add_saddle(Model &m, const std::array<int, 4> &plane, int lifted, Random &r) {
+    const int a = plane[0], b = plane[1], c = plane[2];
+    const int corners = 2 * r.from_to(2, r.one_in(4) ? 20 : 4), most = r.one_in(2) ? 6000 : 300, axis = r.below(3);
+    const Place from{r.from_to(-20000, 20000), r.from_to(-20000, 20000), r.from_to(-20000, 20000)};
+    const Place way{r.one_in(2) ? 1 : -1, r.one_in(2) ? 1 : -1, r.one_in(2) ? 1 : -1};
+    Ring ring;
+    for (const auto &[u, v] : star(corners, r.from_to(most / 2, most), most)) {
+        const int off = static_cast<int>(ring.size()) % 2 == 1 ? lifted : 0;
+        Place p{b * u + c * v + off * a, off * b - a * u, off * c - a * v};
+        std::rotate(p.begin(), p.begin() + axis, p.end());
+        for (std::size_t i = 0; i < 3; i++) p[i] = from[i] + way[i] * p[i];
+        ring.push_back(static_cast<int>(m.points.size()));
+        m.points.push_back(p);
+    }
+    if (r.one_in(4)) m.points.back()[static_cast<std::size_t>(r.below(3))] += r.one_in(2) ? 1 : -1;
+    ring.push_back(ring[0]);
+    m.rings.push_back(ring);
+}
+
+// Check 06 at equality and on both sides of it, on steep planes: the length of each direction below is a whole number, the tolerance
+// is the corners' distance, one less or one more, and now and then a corner is a millimetre off.
+inline Model saddles(Random &r) {
+    constexpr std::array<std::array<int, 4>, 8> planes{{{3, 4, 0, 5}, {3, 0, 4, 5}, {1, 2, 2, 3}, {2, 3, 6, 7}, {1, 4, 8, 9}, {4, 4, 7, 9},
+                                                        {2, 6, 9, 11}, {3, 4, 12, 13}}};
+    const auto &plane = planes[static_cast<std::size_t>(r.below(8))];
+    const int lifted = r.from_to(1, r.one_in(3) ? 1000 / plane[3] : 4), rings = r.from_to(1, 5);
+    Model m{"saddles", lifted * plane[3] + (r.one_in(2) ? 0 : r.one_in(2) ? 1 : -1), {}, {}};
+    for (int k = 0; k < rings; k++) add_saddle(m, plane, lifted, r);
+    return m;
+}
+
 // A horseshoe of cubes whose ends touch at one point only: hangs together across edges and is pinched there (0C).
 inline Model horseshoe(Random &r) {
     Model m{"horseshoe", r.below(20), {}, {}};
@@ -396,8 +453,13 @@ inline Model brim(Random &r) {
 
 inline Model any_model(Random &r) {
     if (r.one_in(25)) return brim(r);
-    switch (r.below(11)) {
+    switch (r.below(13)) {
     case 10: return horseshoe(r);
+    case 11: return saddles(r);
+    case 12: {
+        const int corners = 2 * r.from_to(2, 25), radius = r.from_to(100, 30000);
+        return steep_roofs("steep roofs", corners, radius, r.from_to(0, 25));
+    }
     case 0: return tetrahedron();
     case 1: return r.one_in(2) ? box() : gabled_house();
     case 2: return l_shape();
@@ -405,7 +467,7 @@ inline Model any_model(Random &r) {
         const int n = r.from_to(3, 40), out = r.from_to(50, 40000);
         return prism("prism", star(n, r.one_in(2) ? out : std::max(10, out - r.below(out)), out), r.from_to(1, 9000), r.below(n));
     }
-    case 4: return r.one_in(8) ? nine_buildings()[static_cast<std::size_t>(r.from_to(4, 8))] : ball("ball", r.from_to(1, 3), r.from_to(3, 8));
+    case 4: return r.one_in(8) ? ten_buildings()[static_cast<std::size_t>(r.from_to(4, 9))] : ball("ball", r.from_to(1, 3), r.from_to(3, 8));
     case 5:
     case 6: return cubes(r);
     default: return scribble(r);

@@ -16,7 +16,7 @@ int main(int argc, char **argv) {
     if (argc < 2) return 2;
     const std::string folder = argv[1];
     int i = 0;
-    for (const auto &model : streams::nine_buildings()) {
+    for (const auto &model : streams::ten_buildings()) {
         write(folder, "building_" + std::to_string(++i), streams::load(model));
         if (i <= 4) write(folder, "corrected_" + std::to_string(i), streams::with_corrections(model));
     }
