@@ -28,7 +28,8 @@ enum {
     FRAMECHECK_LONGEST_FRAME = 514     /* digits: a polygon of 128 entries */
 };
 
-/* The checks; 01 to 06 are also a polygon's findings. */
+/* The checks; 01 to 06 are also a polygon's findings. 06 goes by true distance, exactly: it fails where, for some point p of the ring,
+ * (N.(p - first))^2 > tolerance^2 * (Nx^2 + Ny^2 + Nz^2), N being the ring's normal. */
 enum {
     FRAMECHECK_ACCEPTED = 0x00,
     FRAMECHECK_FEW_ENTRIES = 0x01,

@@ -105,6 +105,9 @@ void examples_at_the_edges() {
     const auto bent = [](int h) { return one_ring({{0, 0, 0}, {1000, 0, 0}, {1000, 1000, 0}, {0, 1000, h}}, {0, 1, 2, 3, 0}, 10); };
     HOLD(last_line(bent(20)).substr(0, 16) == "0007000100000000");
     HOLD(last_line(bent(21)).substr(0, 16) == "0006000000000001");
+    const auto steep = [](int h) { return one_ring({{0, 0, 0}, {1000, 0, 1000}, {1000, 1000, 1000}, {0, 1000, h}}, {0, 1, 2, 3, 0}, 10); };
+    HOLD(last_line(steep(21)).substr(0, 16) == "0007000100000000"); // 10.5 mm off along z, 7.5 by true distance
+    HOLD(last_line(steep(29)).substr(0, 16) == "0006000000000001");
     const auto bow = [](int y) { return one_ring({{0, 0, 0}, {1000, 1000, 0}, {1000, 0, 0}, {0, y, 0}}, {0, 1, 2, 3, 0}); };
     HOLD(last_line(bow(1000)).substr(0, 16) == "0004000000000001");
     HOLD(last_line(bow(2000)).substr(0, 16) == "0005000000000001");
