@@ -2,6 +2,7 @@
 // a time; rings are told apart by boxes, 16 edges at a time; edges are matched along chains by their smaller end. A stream that has
 // anything but a load without refusals, and a building that fails a check other than 0B or 0D, is answered by the plain baseline.
 #include "baselines.h"
+#include "distance.hpp"
 
 #include <algorithm>
 #include <cstdlib>
@@ -102,18 +103,6 @@ BY_AVX512 bool crosses_many(const Outline &o) {
     return false;
 }
 
-// Two machine words as one number, which ISO C++ has no name for. Squares here are below 2^126.
-__extension__ typedef unsigned __int128 u128;
-
-inline u128 square(i64 size) { return static_cast<u128>(size) * static_cast<u128>(size); }
-
-// Check 06, given the largest size of N·(p - first) and the sizes of N's components: what is within the tolerance along the axis
-// where N is largest is within it by true distance too.
-inline bool is_uneven(i64 off, i64 ax, i64 ay, i64 az, i64 tolerance) {
-    if (off <= tolerance * std::max(ax, std::max(ay, az))) return false;
-    return square(off) > square(tolerance) * (square(ax) + square(ay) + square(az));
-}
-
 // A triangle: whether it is sound, and its part.
 inline bool sound_triangle(const Tables &t, const u16 *ring, i64 &part) {
     const int f = ring[0], a = ring[1], b = ring[2];
@@ -158,7 +147,7 @@ BY_AVX512 bool sound(const Tables &t, int polygon, i64 &part) {
     i64 off = 0;
     for (int i = 1; i < corners; i++)
         off = std::max<i64>(off, std::llabs(nx * way[0][i] + ny * way[1][i] + nz * way[2][i]));
-    if (is_uneven(off, ax, ay, az, t.tolerance)) return false;
+    if (distance::is_uneven(off, ax, ay, az, t.tolerance)) return false;
     const Outline outline{way[drop == 0 ? 1 : 0], way[drop == 2 ? 1 : 2], corners};
     return corners <= 6 ? !crosses_few(outline) : !crosses_many(outline);
 }
