@@ -74,6 +74,7 @@ pub room-kept : (stream room : List ℕ) → length (served stream room .room) �
 room-kept = R.room-length
 
 -- ---- 2. The verdict, the element named, the number of polygons with a finding, each polygon's own finding and volume part, and the six-volume
+-- are those of the thirteen checks, 06 by true distance (request (ii) of document 02)
 
 -- what a report answers
 pub reports : (t : Tables) → reportOf t ≡ reported (checkNumber (verdict t)) (elementA (verdict t)) (elementB (verdict t)) (tally isFault (findings t)) (sixVolume t)
