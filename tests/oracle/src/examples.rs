@@ -1,4 +1,4 @@
-//! The examples of document 01, and those of its "Run" line.
+//! The examples of document 01, those of its "Run" line, and those of document 02's requests.
 
 use crate::answer;
 use crate::report::{findings, report, Report};
@@ -75,6 +75,23 @@ fn tolerance_at_the_edge() {
     let ring = |h| one_ring(10, &[(0, 0, 0), (1000, 0, 0), (1000, 1000, 0), (0, 1000, h)], &[0, 1, 2, 3, 0]);
     assert_eq!(ring(20), 0);
     assert_eq!(ring(21), 6);
+}
+
+#[test]
+fn true_distance() {
+    // The request's ring: it failed while the distance was taken along an axis. N = (1000h - 2000000, -1000h, 2000000) and N·p is
+    // 1000000h, so that it is 28 that passes and 29 that fails.
+    let steep = |h| one_ring(10, &[(0, 0, 0), (1000, 0, 1000), (1000, 1000, 1000), (0, 1000, h)], &[0, 1, 2, 3, 0]);
+    assert_eq!(steep(20), 0);
+    assert_eq!(steep(21), 0);
+    assert_eq!(steep(28), 0);
+    assert_eq!(steep(29), 6);
+    // Two opposite corners of a square lifted alike: N stays upright and their distance is h, so that 10 is at the tolerance.
+    let saddle = |h| one_ring(10, &[(0, 0, 0), (1000, 0, h), (1000, 1000, 0), (0, 1000, h)], &[0, 1, 2, 3, 0]);
+    assert_eq!(saddle(10), 0);
+    assert_eq!(saddle(11), 6);
+    assert_eq!(saddle(-10), 0);
+    assert_eq!(saddle(-11), 6);
 }
 
 #[test]

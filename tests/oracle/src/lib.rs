@@ -1,7 +1,8 @@
 //! Document 01 again, written plainly: the independent program that the checker is compared with.
 //!
 //! It keeps the loaded tables and the accepted corrections and nothing else; every report and every answer to a question is worked
-//! out from them anew. It is slow on purpose. Each function stands for a sentence of document 01, which is its comment.
+//! out from them anew. It is slow on purpose. Each function stands for a sentence of document 01, which is its comment; where a
+//! request of document 02 has changed the rule, for that request's sentence.
 
 pub mod frame;
 pub mod held;

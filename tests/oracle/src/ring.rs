@@ -1,4 +1,4 @@
-//! Checks 01 to 06, on one polygon, and its part of the six-volume.
+//! Checks 01 to 06, on one polygon, and its part of the six-volume. Check 06 is that of document 02, request (ii).
 
 use crate::tables::{Place, Tables, ORIGIN};
 
@@ -128,10 +128,17 @@ pub fn fails_05(places: &[Place]) -> bool {
     false
 }
 
-/// "for some point p, the size of N·(p - first) exceeds tolerance times the largest size of N's components"
+/// "tolerance squared times the sum of the squares of N's components": below 2^109, since N's components are below 2^44.
+pub fn square_of_reach(normal: Place, tolerance: i128) -> i128 {
+    tolerance * tolerance * normal.dot(normal)
+}
+
+/// Document 02, (ii): for some point p "the square of N·(p - first) exceeds tolerance squared times the sum of the squares of N's
+/// components". N·(p - first) is below 2^63 in size, its square below 2^126.
 pub fn fails_06(places: &[Place], tolerance: i128) -> bool {
     let normal = normal(places);
-    places.iter().any(|place| normal.dot(place.minus(places[0])).abs() > tolerance * largest_size(normal))
+    let square_of_reach = square_of_reach(normal, tolerance);
+    places.iter().map(|place| normal.dot(place.minus(places[0]))).any(|along| along * along > square_of_reach)
 }
 
 /// "the determinant of first, p, q, the three points taken as three rows of three numbers"

@@ -1,7 +1,7 @@
 //! The geometry and the reachability of the oracle once more, by other means, on seeded random input.
 
 use crate::held::{corrected, Correction};
-use crate::ring::{fails_05, finding, normal, part, share_a_point, share_more_than_end, Flat};
+use crate::ring::{fails_05, fails_06, finding, largest_size, normal, part, share_a_point, share_more_than_end, Flat};
 use crate::shape::{edges, fails_0b, fails_0c};
 use crate::tables::{Place, Tables, ORIGIN};
 use std::collections::HashSet;
@@ -190,6 +190,43 @@ fn check_05_again() {
         seen[usize::from(fails)] += 1;
     }
     assert!(seen[0] > 10_000 && seen[1] > 10_000, "{seen:?}");
+}
+
+/// Check 06 by Pythagoras: the square of the way from the first point to p, less the square of its shadow on the plane, is the square
+/// of the distance to the plane; the shadow is as long as N × (p - first) divided by N's length. All of it times N's length squared.
+fn fails_06_again(places: &[Place], tolerance: i128) -> bool {
+    let n = normal(places);
+    places.iter().any(|place| {
+        let way = place.minus(places[0]);
+        let across = n.cross(way);
+        way.dot(way) * n.dot(n) - across.dot(across) > tolerance * tolerance * n.dot(n)
+    })
+}
+
+/// Check 06 before request (ii): the distance along the axis where N is largest.
+fn failed_06_along_an_axis(places: &[Place], tolerance: i128) -> bool {
+    let n = normal(places);
+    places.iter().any(|place| n.dot(place.minus(places[0])).abs() > tolerance * largest_size(n))
+}
+
+#[test]
+fn check_06_again() {
+    let mut dice = Dice(8);
+    let (mut seen, mut forgiven) = ([0, 0], 0);
+    for round in 0..200_000 {
+        let size = [2, 4, 50, 2_000, 100_000][round % 5];
+        let corners = 4 + dice.below(4) as usize;
+        let Some(places) = ring_for_05(&mut dice, size, corners) else { continue };
+        // A tolerance of about the ring's size, where both answers come.
+        let tolerance = dice.below(size as u64).min(1_000) as i128;
+        let fails = fails_06(&places, tolerance);
+        assert_eq!(fails, fails_06_again(&places, tolerance), "{places:?} at {tolerance}");
+        let failed = failed_06_along_an_axis(&places, tolerance);
+        assert!(failed || !fails, "the true distance is never the longer one: {places:?} at {tolerance}");
+        seen[usize::from(fails)] += 1;
+        forgiven += usize::from(failed && !fails);
+    }
+    assert!(seen[0] > 10_000 && seen[1] > 10_000 && forgiven > 5_000, "{seen:?} {forgiven}");
 }
 
 #[test]
