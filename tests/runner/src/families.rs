@@ -1,9 +1,12 @@
-//! Families of streams: each aims at some part of document 01, and the seed decides the rest.
+//! Families of streams: each aims at some part of the documents, and the seed decides the rest.
 
+use crate::distance::{self, Twice};
 use crate::faults::{pinch, ring_fault, shape_fault};
 use crate::prng::Dice;
 use crate::script::Script;
 use crate::solids::{self, closed, Solid, P};
+use oracle::ring::fails_06;
+use oracle::tables::Place;
 
 /// A family: its name, its share, and how one of its streams is written.
 pub struct Family {
@@ -21,6 +24,8 @@ pub const FAMILIES: &[Family] = &[
     Family { name: "few polygons", share: 2, write: few_polygons },
     Family { name: "rings on a small grid", share: 4, write: grid_rings },
     Family { name: "rings off their plane", share: 3, write: off_plane },
+    Family { name: "rings at the true distance", share: 2, write: true_distance },
+    Family { name: "large rings at the true distance", share: 1, write: large_at_true_distance },
     Family { name: "histories", share: 5, write: histories },
     Family { name: "refusals", share: 5, write: refusals },
     Family { name: "begins and ends", share: 3, write: begins },
@@ -334,15 +339,18 @@ fn grid_rings(dice: &mut Dice) -> Vec<u8> {
     script.bytes(dice)
 }
 
-/// Rectangles with a corner lifted by about twice the tolerance, and other rings near their tolerance.
+/// Rectangles with a corner lifted by about twice the tolerance, saddles lifted by about the tolerance (their N is upright), and other
+/// rings near their tolerance.
 fn off_plane(dice: &mut Dice) -> Vec<u8> {
     let mut script = Script::default();
     let tolerance = *dice.pick(&[0, 1, 10, 500, 999, 1_000]);
     let mut solid = Solid::default();
     for k in 0..6 {
         let (side, base) = (1_000 * dice.between(1, 20), 1_500 * k);
-        let height = 2 * tolerance as i64 + dice.between(-1, 1);
-        let corners = [[0, 0, base], [side, 0, base], [side, side, base], [0, side, base + height]];
+        let (saddle, off) = (k % 2 == 1, dice.between(-1, 1));
+        let height = if saddle { tolerance as i64 + off } else { 2 * tolerance as i64 + off };
+        let second = if saddle { base + height } else { base };
+        let corners = [[0, 0, base], [side, 0, second], [side, side, base], [0, side, base + height]];
         let first = solid.points.len();
         solid.points.extend(corners);
         let mut numbers: Vec<usize> = (first..first + 4).collect();
@@ -365,6 +373,155 @@ fn off_plane(dice: &mut Dice) -> Vec<u8> {
     script.questions(dice, solid.rings.len());
     let frames = dice.below(6);
     history(dice, &mut script, &solid, frames);
+    script.bytes(dice)
+}
+
+/// A tolerance for rings right at it: any, and some for which a length with a root is nearly a whole number.
+fn met_tolerance(dice: &mut Dice) -> usize {
+    let any = 1 + dice.below(1_000);
+    *dice.pick(&[1, 1, 2, 10, 29, 408, 985, 1_000, 1_000, any, any, any])
+}
+
+/// Puts a ring's corners into the solid, begun at some entry, unless a place is taken; gives the number of its first corner.
+fn put_ring(dice: &mut Dice, solid: &mut Solid, corners: &[P]) -> Option<usize> {
+    let first = solid.points.len();
+    if corners.iter().enumerate().any(|(k, corner)| solid.points.contains(corner) || corners[..k].contains(corner)) {
+        return None;
+    }
+    solid.points.extend(corners);
+    let mut numbers: Vec<usize> = (first..first + corners.len()).collect();
+    numbers.rotate_left(*dice.pick(&[0, 1, corners.len() / 2]));
+    if dice.once_in(2) {
+        numbers.reverse();
+    }
+    solid.rings.push(closed(&numbers));
+    Some(first)
+}
+
+/// Corrections of one ring, each with a question after it.
+struct Asking<'a> {
+    script: &'a mut Script,
+    number: u32,
+    polygon: usize,
+}
+
+impl Asking<'_> {
+    fn shift(&mut self, point: usize, to: P) {
+        self.number += 1;
+        self.script.shift(self.number, point, to);
+        self.script.question(self.polygon);
+    }
+
+    fn turn(&mut self) {
+        self.number += 1;
+        self.script.turn(self.number, self.polygon);
+        self.script.question(self.polygon);
+    }
+
+    /// From one side of the tolerance to the other and back: corner by corner, with a turn on each side.
+    fn across(&mut self, first: usize, here: &[P], there: &[P]) {
+        self.turn();
+        for to in [there, here] {
+            (0..here.len()).filter(|&k| here[k] != there[k]).for_each(|k| self.shift(first + k, to[k]));
+            self.turn();
+        }
+    }
+
+    /// One corner by one millimetre over the tolerance and back, if there is such a place up an axis.
+    fn by_a_millimetre(&mut self, dice: &mut Dice, tolerance: usize, solid: &Solid) {
+        let ring = &solid.rings[self.polygon];
+        let (corner, axis) = (*dice.pick(ring), dice.below(3));
+        let moved = |by: i64| {
+            let mut to = solid.points[corner];
+            to[axis] += by;
+            to
+        };
+        let fails = |by: i64| {
+            let at = |&entry: &usize| if entry == corner { moved(by) } else { solid.points[entry] };
+            let places = ring.iter().map(at).map(|p| Place { x: p[0].into(), y: p[1].into(), z: p[2].into() });
+            fails_06(&places.collect::<Vec<_>>(), tolerance as i128)
+        };
+        let (mut here, mut there) = (0, if dice.once_in(2) { 6_000 } else { -6_000 });
+        if fails(here) == fails(there) {
+            return;
+        }
+        while i64::abs(there - here) > 1 {
+            let middle = (here + there) / 2;
+            *if fails(middle) == fails(here) { &mut here } else { &mut there } = middle;
+        }
+        [here, there, here].into_iter().for_each(|by| self.shift(corner, moved(by)));
+        self.turn();
+        self.shift(corner, moved(there));
+    }
+}
+
+/// Rings of up to 38 corners at the reach of their tolerance and one step beyond, moved from the one to the other.
+fn true_distance(dice: &mut Dice) -> Vec<u8> {
+    let mut script = Script::default();
+    let tolerance = met_tolerance(dice);
+    let (mut solid, mut rings) = (Solid::default(), Vec::new());
+    for _ in 0..3 + dice.below(3) {
+        let most = if dice.once_in(4) { 18 } else { 6 };
+        let pairs = 2 + dice.below(most);
+        let ring = if dice.once_in(3) {
+            Some(distance::opposite_pairs(dice, pairs, tolerance))
+        } else {
+            distance::four_corners(dice, tolerance)
+        };
+        let Some(Twice { mut within, mut beyond }) = ring else { continue };
+        if !distance::set_down(dice, &mut [&mut within, &mut beyond]) {
+            continue;
+        }
+        let (here, there) = if dice.once_in(2) { (within, beyond) } else { (beyond, within) };
+        if let Some(first) = put_ring(dice, &mut solid, &here) {
+            rings.push((first, here, there));
+        }
+    }
+    script.load(tolerance, &solid, dice);
+    script.questions(dice, solid.rings.len());
+    let mut number = 0;
+    for (polygon, (first, here, there)) in rings.iter().enumerate().take(2) {
+        let mut asking = Asking { script: &mut script, number, polygon };
+        if dice.once_in(2) {
+            asking.across(*first, here, there);
+        } else {
+            asking.by_a_millimetre(dice, tolerance, &solid);
+        }
+        number = asking.number;
+    }
+    script.bytes(dice)
+}
+
+/// Rings of 39 to 127 corners, near the bounds of coordinates, at the reach of their tolerance and one step beyond.
+fn large_at_true_distance(dice: &mut Dice) -> Vec<u8> {
+    let mut script = Script::default();
+    let tolerance = met_tolerance(dice);
+    let mut solid = Solid::default();
+    let rings = if dice.once_in(4) { 2 } else { 1 };
+    for _ in 0..rings {
+        let corners = *dice.pick(&[39, 40, 41, 42, 44, 50, 63, 64, 65, 126, 127, 127, 127]);
+        let ring = if dice.once_in(2) {
+            let Twice { within, beyond } = distance::opposite_pairs(dice, corners / 2, tolerance);
+            Some(if dice.once_in(2) { within } else { beyond })
+        } else {
+            distance::many_corners(dice, corners, tolerance)
+        };
+        let Some(mut ring) = ring else { continue };
+        if corners % 2 == 1 {
+            distance::straight(&mut ring);
+        }
+        if distance::set_down(dice, &mut [&mut ring]) {
+            put_ring(dice, &mut solid, &ring);
+        }
+    }
+    script.load(tolerance, &solid, dice);
+    script.questions(dice, solid.rings.len());
+    // The oracle looks at all edges of such rings again after each correction, which takes its time: often there are none.
+    if !solid.rings.is_empty() && (solid.points.len() < 66 || dice.once_in(5)) {
+        let mut asking = Asking { script: &mut script, number: 0, polygon: 0 };
+        asking.turn();
+        asking.by_a_millimetre(dice, tolerance, &solid);
+    }
     script.bytes(dice)
 }
 

@@ -1,6 +1,7 @@
 //! The runner: seeded streams to the product and to the oracle, and a comparison of all that comes back. See ../../README.md.
 
 mod compare;
+mod distance;
 mod families;
 mod faults;
 mod prng;
