@@ -61,9 +61,33 @@ const RINGS: &[&str] = &[
     "05 fails by a touch, nothing crossing",
     "05 fails by edges along each other",
     "05 passes with edges on one line apart",
-    "06 passes exactly at the tolerance",
-    "06 fails by less than a step of the tolerance",
     "ring of 3 entries with a part",
+];
+
+/// Check 06 where it is decided. A step is the least by which N·(p - first) can differ, N being as it is; wrong programs that would
+/// answer otherwise stand behind the comma. Squares are looked at where a point is beyond the tolerance along the axis.
+const DISTANCES: &[&str] = &[
+    "06 passes exactly at the tolerance, N upright",
+    "06 passes exactly at the tolerance, N tilted",
+    "06 passes by less than a step, N tilted",
+    "06 fails by the least step, N upright",
+    "06 fails by the least step, N tilted",
+    "06 fails by less than a step of the tolerance",
+    "06 passes, along the axis it would fail, four corners",
+    "06 passes, along the axis it would fail, five to 38 corners",
+    "06 passes, along the axis it would fail, 40 entries or more",
+    "06 passes, along the axis it would fail, 128 entries",
+    "06 fails by the least step, four corners",
+    "06 fails by the least step, five to 38 corners",
+    "06 fails by the least step, 40 entries or more",
+    "06 fails by the least step, 128 entries",
+    "06 passes at the tolerance, squares in two words",
+    "06 passes, high words alike and above 0",
+    "06 fails, high words alike and above 0",
+    "06 passes, by the low words alone it would fail",
+    "06 fails, by the low words alone it would pass",
+    "06 passes, in floating point it would fail",
+    "06 fails, in floating point it would pass",
 ];
 
 const HISTORIES: &[&str] = &[
@@ -93,6 +117,10 @@ const HISTORIES: &[&str] = &[
     "0D with a negative six-volume",
     "number above 7FFFFFFF",
     "a late number above a refused one",
+    "a move by a millimetre makes 06 fail",
+    "a move by a millimetre makes 06 pass",
+    "a ring exactly at its tolerance turned, N tilted",
+    "a ring that fails 06 by the least step turned, N tilted",
 ];
 
 /// Everything that must be reached.
@@ -121,7 +149,7 @@ fn required() -> Vec<String> {
     }
     names.extend((1..=3).map(|number| format!("whole stream -{number}")));
     names.extend(["-1 before -2", "-1 before -3", "-2 before -3", "all three"].map(|name| format!("whole stream {name}")));
-    names.extend([BOUNDS, RINGS, HISTORIES].concat().iter().map(|name| name.to_string()));
+    names.extend([BOUNDS, RINGS, DISTANCES, HISTORIES].concat().iter().map(|name| name.to_string()));
     names
 }
 
@@ -320,10 +348,54 @@ impl Reach {
         self.count_if(by_value != axis, "signed choice of the axis would differ");
         let flat: Vec<ring::Flat> = places.iter().map(|&place| ring::drop_axis(n, place)).collect();
         self.meetings(&flat, finding);
-        let farthest = places.iter().map(|place| n.dot(place.minus(places[0])).abs()).max().unwrap_or(0);
-        self.size("N·(p - first)", farthest);
-        self.count_if(finding == 0 && farthest > 0 && farthest == tolerance * largest, "06 passes exactly at the tolerance");
-        self.count_if(finding == 6 && farthest < (tolerance + 1) * largest, "06 fails by less than a step of the tolerance");
+        let distance = Distance::of(places, tolerance);
+        self.size("N·(p - first)", distance.farthest);
+        if finding != 5 {
+            self.size("tolerance squared times the squares of N", distance.limit);
+            self.steps(&distance, places.len(), finding == 6);
+            self.words(&distance, finding == 6);
+        }
+    }
+
+    /// How near to the tolerance check 06 was decided.
+    fn steps(&mut self, distance: &Distance, entries: usize, fails: bool) {
+        let lean = if distance.tilted() { "tilted" } else { "upright" };
+        self.count_if(distance.at_tolerance(), &format!("06 passes exactly at the tolerance, N {lean}"));
+        let less = !fails && distance.farthest.pow(2) < distance.limit && distance.beyond(distance.farthest + distance.step);
+        self.count_if(less, &format!("06 passes by less than a step, N {lean}"));
+        self.count_if(distance.by_least_step(), &format!("06 fails by the least step, N {lean}"));
+        let next = ring::square_of_reach(distance.normal, distance.tolerance + 1);
+        self.count_if(fails && distance.farthest.pow(2) < next, "06 fails by less than a step of the tolerance");
+        let lengths = [
+            (entries == 5, "four corners"),
+            ((6..40).contains(&entries), "five to 38 corners"),
+            (entries >= 40, "40 entries or more"),
+            (entries == 128, "128 entries"),
+        ];
+        for (_, length) in lengths.into_iter().filter(|(has, _)| *has) {
+            self.count_if(!fails && distance.beyond_axis(), &format!("06 passes, along the axis it would fail, {length}"));
+            self.count_if(distance.by_least_step() && distance.tilted(), &format!("06 fails by the least step, {length}"));
+        }
+    }
+
+    /// What the two words of the squares had to tell.
+    fn words(&mut self, distance: &Distance, fails: bool) {
+        if !distance.beyond_axis() {
+            return;
+        }
+        let (square, limit) = (distance.farthest.pow(2), distance.limit);
+        let high_alike = square >> 64 == limit >> 64 && limit >> 64 > 0;
+        self.count_if(high_alike && square == limit, "06 passes at the tolerance, squares in two words");
+        self.count_if(high_alike && square < limit, "06 passes, high words alike and above 0");
+        self.count_if(high_alike && square > limit, "06 fails, high words alike and above 0");
+        let by_low_words = distance.any(|along| (along.pow(2) as u64) > limit as u64);
+        self.count_if(!fails && by_low_words, "06 passes, by the low words alone it would fail");
+        self.count_if(fails && !by_low_words, "06 fails, by the low words alone it would pass");
+        let n = distance.normal;
+        let [x, y, z, tolerance] = [n.x, n.y, n.z, distance.tolerance].map(|number| number as f64);
+        let by_floats = distance.any(|along| (along as f64) * (along as f64) > tolerance * tolerance * (x * x + y * y + z * z));
+        self.count_if(!fails && by_floats, "06 passes, in floating point it would fail");
+        self.count_if(fails && !by_floats, "06 fails, in floating point it would pass");
     }
 
     fn meetings(&mut self, flat: &[ring::Flat], finding: u8) {
@@ -381,13 +453,20 @@ impl Reach {
                 past.refused.insert(*number);
             }
         }
+        self.corrected(past, &old, &new, frame, answer);
+    }
+
+    /// What a move or a turn did.
+    fn corrected(&mut self, past: &mut Past, old: &Tables, new: &Tables, frame: &Frame, answer: &str) {
+        let accepted = answer.starts_with("00");
         match frame {
             Frame::Move { point, place, .. } if accepted => {
                 self.count_if(old.points[*point] == *place, "move to the own place");
                 self.count_if(old.points[*point] != *place && past.left.contains(place), "move to a place that was left");
                 let listing = new.polygons.iter().filter(|ring| ring.contains(point)).count();
                 self.count_if(listing >= 2, "a stamp from a move, 2 or more polygons");
-                let faulty = (0..new.polygons.len()).any(|k| new.polygons[k].contains(point) && ring::finding(&new, k) != 0);
+                self.by_a_millimetre(old, new, *point);
+                let faulty = (0..new.polygons.len()).any(|k| new.polygons[k].contains(point) && ring::finding(new, k) != 0);
                 self.count_if(faulty, "a stamp on a polygon with a finding");
                 past.left.push(old.points[*point]);
             }
@@ -402,8 +481,39 @@ impl Reach {
                 let parts = (ring::part(&old.places(*polygon)), ring::part(&new.places(*polygon)));
                 self.count_if(open && parts.0 != -parts.1, "open ring turned, part not negated");
                 self.count_if(!past.turned.insert(*polygon), "turned and turned back");
+                self.turned_at_tolerance(old, *polygon);
             }
             _ => {}
+        }
+    }
+
+    /// Findings that change with the least move there is.
+    fn by_a_millimetre(&mut self, old: &Tables, new: &Tables, point: usize) {
+        let by = new.points[point].minus(old.points[point]);
+        if by.dot(by) != 1 {
+            return;
+        }
+        for polygon in (0..new.polygons.len()).filter(|&polygon| new.polygons[polygon].contains(&point)) {
+            let [was, is] = [old, new].map(|tables| ring::fails_06(&tables.places(polygon), tables.tolerance));
+            // Findings take long to work out: only where 06 changes.
+            let findings = if was == is { (0, 0) } else { (ring::finding(old, polygon), ring::finding(new, polygon)) };
+            self.count_if(findings == (0, 6), "a move by a millimetre makes 06 fail");
+            self.count_if(findings == (6, 0), "a move by a millimetre makes 06 pass");
+        }
+    }
+
+    /// A turn right at the tolerance or right beyond it.
+    fn turned_at_tolerance(&mut self, old: &Tables, polygon: usize) {
+        let places = old.places(polygon);
+        if places.len() < 4 {
+            return;
+        }
+        let distance = Distance::of(&places, old.tolerance);
+        let (at, beyond) = (distance.tilted() && distance.at_tolerance(), distance.tilted() && distance.by_least_step());
+        if at || beyond {
+            let finding = ring::finding(old, polygon);
+            self.count_if(at && finding == 0, "a ring exactly at its tolerance turned, N tilted");
+            self.count_if(beyond && finding == 6, "a ring that fails 06 by the least step turned, N tilted");
         }
     }
 
@@ -426,6 +536,60 @@ impl Reach {
 
     pub fn required_count() -> usize {
         required().len()
+    }
+}
+
+/// What check 06 decides by: each size of N·(p - first), and the square that its square is compared with.
+struct Distance {
+    normal: Place,
+    tolerance: i128,
+    along: Vec<i128>,
+    farthest: i128,
+    limit: i128,
+    step: i128,
+}
+
+impl Distance {
+    fn of(places: &[Place], tolerance: i128) -> Distance {
+        let normal = ring::normal(places);
+        let along: Vec<i128> = places.iter().map(|place| normal.dot(place.minus(places[0])).abs()).collect();
+        let farthest = along.iter().copied().max().unwrap_or(0);
+        let step = divisor(divisor(normal.x.abs(), normal.y.abs()), normal.z.abs());
+        Distance { normal, tolerance, along, farthest, limit: ring::square_of_reach(normal, tolerance), step }
+    }
+
+    fn any(&self, wrong: impl Fn(i128) -> bool) -> bool {
+        self.along.iter().any(|&along| wrong(along))
+    }
+
+    fn beyond(&self, along: i128) -> bool {
+        along.pow(2) > self.limit
+    }
+
+    /// The rule before request (ii).
+    fn beyond_axis(&self) -> bool {
+        self.farthest > self.tolerance * ring::largest_size(self.normal)
+    }
+
+    /// Whether more than one component of N is not zero.
+    fn tilted(&self) -> bool {
+        ring::largest_size(self.normal).pow(2) < self.normal.dot(self.normal)
+    }
+
+    fn at_tolerance(&self) -> bool {
+        self.farthest > 0 && self.farthest.pow(2) == self.limit
+    }
+
+    fn by_least_step(&self) -> bool {
+        self.beyond(self.farthest) && !self.beyond(self.farthest - self.step)
+    }
+}
+
+fn divisor(a: i128, b: i128) -> i128 {
+    if b == 0 {
+        a
+    } else {
+        divisor(b, a % b)
     }
 }
 
