@@ -51,20 +51,8 @@ pub fn normal_of_four(points: &[i32; 1536], a: u16, b: u16, c: u16, d: u16) -> P
     )
 }
 
-// 06 of a ring of four corners: the second and the fourth are equally far off, and the third is not off.
-fn is_bent(points: &[i32; 1536], ring: &[u16], tolerance: u16, n: Place) -> bool
-    requires { ⌜ Coords (now points) ⌝ }
-    requires { ⌜ Known (now ring) ⌝ }
-    requires { ⌜ (length (now ring) ≡ 5) × (isUnclosed (now ring) ≡ false) × (tolerance ≤ 1000) ⌝ }
-    requires { ⌜ asPoint n ≡ normal (places (pointsOf (now points)) (now ring)) ⌝ }
-    ensures { λ r. ⌜ r ≡ isUneven tolerance (asPoint n) (places (pointsOf (now (points .entry))) (now (ring .entry))) ⌝ }
-{
-    let first = ring[0];
-    let second = ring[1];
-    even::is_far(points, n, tolerance, first, second)
-}
-
-// 06 of a closed ring whose normal is n.
+// 06 of a closed ring whose normal is n. Of four corners the second and the fourth are equally far off, and the third is not off:
+// where the second is within the reach, all are.
 pub fn is_uneven(points: &[i32; 1536], ring: &[u16], tolerance: u16, n: Place) -> bool
     requires { ⌜ Coords (now points) ⌝ }
     requires { ⌜ Known (now ring) ⌝ }
@@ -73,7 +61,11 @@ pub fn is_uneven(points: &[i32; 1536], ring: &[u16], tolerance: u16, n: Place) -
     ensures { λ r. ⌜ r ≡ isUneven tolerance (asPoint n) (places (pointsOf (now (points .entry))) (now (ring .entry))) ⌝ }
 {
     if ring.len() == 5 {
-        return is_bent(points, ring, tolerance, n);
+        let first = ring[0];
+        let second = ring[1];
+        if even::is_near(points, n, tolerance, first, second) {
+            return false;
+        }
     }
     even::is_uneven(points, ring, tolerance, n)
 }

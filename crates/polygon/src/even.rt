@@ -4,12 +4,12 @@ use super::space;
 use wide::Wide;
 ghost use mathlib.Core.Path.{_≡_};
 ghost use Prim.Native.Nat.{_*_, _<_, _≤_, max};
-ghost use lib.Dec.{ltb};
+ghost use lib.Dec.{leb, ltb};
 ghost use lib.ListN.{length};
 ghost use lib.IntN.{pos, natAbs, _*ℤ_};
 ghost use Rattle.wide.specs.Value.{value};
 ghost use Rattle.polygon.specs.Space.{relativeTo, dot, places};
-ghost use Rattle.polygon.specs.Ring.{square, squares, exceeds, isUneven};
+ghost use Rattle.polygon.specs.Ring.{square, squares, isUneven};
 ghost use Rattle.polygon.specs.Held.{pointsOf, placeAt, Coords, Known};
 ghost use Rattle.polygon.specs.Leaves.{asPoint, Near, largest};
 ghost use Rattle.polygon.specs.Distance.{Next};
@@ -69,18 +69,14 @@ fn is_beyond(size: u64, limit: Wide) -> bool
     wide::is_less(limit, wide::product(size, size))
 }
 
-// Whether the square of N·(p - first) exceeds the limit of a tolerance: that is made only for a point beyond the reach.
-pub fn is_far(points: &[i32; 1536], n: Place, tolerance: u16, first: u16, p: u16) -> bool
+// Whether N·(p - first) is within the reach: then p is within the tolerance.
+pub fn is_near(points: &[i32; 1536], n: Place, tolerance: u16, first: u16, p: u16) -> bool
     requires { ⌜ Coords (now points) ⌝ }
     requires { ⌜ (first < 512) × (p < 512) × (tolerance ≤ 1000) ⌝ }
     requires { ⌜ Near 10160000000000 (asPoint n) ⌝ }
-    ensures { λ r. ⌜ r ≡ exceeds tolerance (asPoint n) (dot (asPoint n) (relativeTo (placeAt (now (points .entry)) first) (placeAt (now (points .entry)) p))) ⌝ }
+    ensures { λ r. ⌜ r ≡ leb (natAbs (dot (asPoint n) (relativeTo (placeAt (now (points .entry)) first) (placeAt (now (points .entry)) p)))) (tolerance * largest (asPoint n)) ⌝ }
 {
-    let size = off(points, n, first, p);
-    if size <= reach_of(tolerance, n) {
-        return false;
-    }
-    is_beyond(size, limit_of(tolerance, n))
+    off(points, n, first, p) <= reach_of(tolerance, n)
 }
 
 // The first entry from i on that is off by more than a reach, or the ring's length.

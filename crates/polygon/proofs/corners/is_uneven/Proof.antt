@@ -1,14 +1,32 @@
--- `polygon::corners::is_uneven` meets its contract. Four corners are told by one, any other ring by each.
+-- `polygon::corners::is_uneven` meets its contract. Of four corners the second tells of all; otherwise each is looked at.
+use native.Mathlib.Omega.{arith}
+use mathlib.Core.Path.{sym, _∙_}
 use borrow.Author.Needs.{needs}
+use borrow.Author.Tests.{leb-true}
+use Rattle.polygon.specs.Leaves.{asPoint}
 use Rattle.polygon.specs.Sizes.{near-same, normal-near}
+use Rattle.polygon.specs.Distance.{settled}
+use Rattle.polygon.proofs.Ways.{bent-is}
 use Rattle.polygon.proofs.corners.is_uneven.Statement.{statement}
 use Rattle.polygon.proofs.corners.is_uneven.Tie as tie
 
-is-bent-requires : tie.Need-is-bent-requires
-is-bent-requires c κs = search needs
+shared-slice-read-first : tie.Need-shared-slice-read-first
+shared-slice-read-first c = search needs
+
+shared-slice-read-second : tie.Need-shared-slice-read-second
+shared-slice-read-second c = search needs
+
+is-near-requires : tie.Need-is-near-requires
+is-near-requires c κs =
+    let h = c .before .before .before .before .pre in
+    (h .0, ((h .1 .0 .each 0 (omega arith), h .1 .0 .each _ (omega (arith, c .before .before .if1 .taken)), h .1 .1 .0 .2), near-same (h .1 .1 .1) (normal-near (h .0) (h .1 .0))))
 
 returns : tie.Need-returns
-returns c = search needs
+returns c =
+    let s = c .before .before .before .before .before .before in
+    let h = s .pre in
+    sym (settled (s .args .tolerance) (asPoint (s .args .n)) _ (leb-true _ _ (sym (c .before .is-near .ensures) ∙ c .if2 .taken)))
+    ∙ bent-is (s .args .tolerance) (h .0) (h .1 .0) (c .before .before .before .before .if1 .taken) (h .1 .1 .0 .1) (h .1 .1 .1)
 
 is-uneven-requires : tie.Need-is-uneven-requires
 is-uneven-requires c κs =
@@ -19,4 +37,12 @@ returns-2 : tie.Need-returns-2
 returns-2 c = search needs
 
 pub is-uneven-spec : {M : Type 1} → statement M
-is-uneven-spec = tie.close (tie.spec is-bent-requires returns is-uneven-requires returns-2)
+is-uneven-spec =
+    tie.close
+    (tie.spec
+    shared-slice-read-first
+    shared-slice-read-second
+    is-near-requires
+    returns
+    is-uneven-requires
+    returns-2)
