@@ -43,8 +43,8 @@ module _ (way : Bool) (at : ℕ → Spot) (m : ℕ) (fan : every (fans way at) (
   abbrev edge : ℕ → Segment
   edge i = (at i, at (i + 1))
 
-  allowed : (i j : ℕ) → i < j → j < m → forbidden m (i, edge i) (j, edge j) ≡ false
-  allowed i j h l = go (decLt (i + 1) j)
+  uncrossing : (i j : ℕ) → i < j → j < m → forbidden m (i, edge i) (j, edge j) ≡ false
+  uncrossing i j h l = go (decLt (i + 1) j)
     where
       far : i + 1 < j → (t u : Bool) → eqb i 0 ≡ t → eqb (j + 1) m ≡ u → forbidden m (i, edge i) (j, edge j) ≡ false
       far z true true e f =
@@ -75,7 +75,7 @@ module _ (way : Bool) (at : ℕ → Spot) (m : ℕ) (fan : every (fans way at) (
       at-is i g = let l : i < length es = omega (arith, numbered-length es) in numbered-at es i (0, d) d l ∙ ap (λ (s : Segment). (i, s)) (h i (omega arith))
 
       each : (i j : ℕ) → i < j → j < length (numbered es) → forbidden m (getD (numbered es) i (0, d)) (getD (numbered es) j (0, d)) ≡ false
-      each i j f g = ap₂ (forbidden m) (at-is i (omega arith)) (at-is j g) ∙ allowed i j f (omega (arith, numbered-length es))
+      each i j f g = ap₂ (forbidden m) (at-is i (omega arith)) (at-is j g) ∙ uncrossing i j f (omega (arith, numbered-length es))
 
 -- ---- a closed ring of known points
 last-is : (ring : List ℕ) → 1 ≤ length ring → isUnclosed ring ≡ false → getD ring (length ring - 1) 0 ≡ getD ring 0 0
