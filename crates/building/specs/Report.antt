@@ -1,20 +1,20 @@
 -- The report on a building's tables, and the answer about one polygon.
-use Prim.Native.Nat.{ℕ, zero, suc}
-use mathlib.Core.Bool.{Bool, true, false, not}
+use Prim.Native.Nat.{ℕ}
+use mathlib.Core.Bool.{Bool}
 use mathlib.Core.List.{List, [], _∷_, map}
-use mathlib.Core.Option.{Option, none, some, Option·map}
-use lib.Dec.{eqb, ltb}
-use lib.ListN.{length, getD}
+use mathlib.Core.Option.{Option}
+use lib.Dec.{ltb}
 use lib.IntN.{ℤ, pos}
 use lib.Signed.{leZ}
 use Rattle.whole.specs.Lists.{given, first, firstGiven, tally, numbered, sumOf}
 use Rattle.polygon.specs.declared.Finding.{Finding}
-use Rattle.polygon.specs.Ring.{finding, findingNumber, part}
+use Rattle.polygon.specs.Ring.{finding, findingNumber}
+use Rattle.volume.specs.Part.{part}
 use Rattle.shell.specs.declared.Shape.{Shape}
 use Rattle.shell.specs.Shell.{shape, shapeNumber, shapeA, shapeB}
 use Rattle.building.specs.declared.Verdict.{Verdict}
 use Rattle.building.specs.declared.Verdict.the-variants.{Accepted, Faulty, Unsound, Inward}
-use Rattle.building.specs.Tables.{Tables, Polygon}
+use Rattle.building.specs.Tables.{Tables}
 
 -- the column No. ("Check 00 with 0, 0 is acceptance.")
 unfoldable pub checkNumber : Verdict → ℕ

@@ -1,51 +1,20 @@
 // The service: the lines of a stream one after the other, each refused or taken, and the one public entry.
 use building::Scalars;
+use desk::Desk;
+use desk::Mode;
 use frame::Fields;
+use service::Refusal;
 use shell::Shape;
-
-mod amend;
-mod answer;
-mod load;
-mod refusals;
-
 ghost use mathlib.Core.Path.{_≡_};
-ghost use mathlib.Core.List.{List};
-ghost use Prim.Native.Nat.{ℕ, _+_, _*_, _-_, _≤_, _<_};
-ghost use lib.ListN.{length, drop, getD};
-ghost use lib.Seq.{sets};
-ghost use lib.IntN.{ℤ, pos};
-ghost use Rattle.frame.specs.Lines.{lines};
-ghost use Rattle.building.specs.Holds.{Arrays, arrays, Sizes};
-ghost use Rattle.checker.specs.Service.{step};
-ghost use Rattle.checker.specs.Stream.{Answers};
-ghost use Rattle.checker.specs.Holds.{service, Valid, Did, idleDesk, Answered};
-ghost use Rattle.polygon.specs.Held.{Coords};
-
-// Why a frame is refused; `Accepted` where no test refuses it. `refusalNumber` gives document 01's number.
-pub enum Refusal {
-    Accepted,
-    Malformed,
-    Misplaced,
-    Beyond,
-    Full,
-    Absent,
-    Taken,
-    Late,
-}
-
-// What is held: nothing, a load that runs, or a building.
-pub enum Mode {
-    Nothing,
-    Loading,
-    Holding,
-}
-
-// The service's scalars: what is held, and the place in the room where the next answer goes.
-pub struct Desk {
-    pub mode: Mode,
-    pub held: Scalars,
-    pub at: usize,
-}
+ghost use Prim.Native.Nat.{ℕ, _+_, _*_, _≤_};
+ghost use lib.ListN.{length, getD};
+ghost use Rattle.lines.specs.Lines.{lines};
+ghost use Rattle.building.specs.held.Holds.{arrays};
+ghost use Rattle.service.specs.Service.{step};
+ghost use Rattle.service.specs.Stream.{Answers};
+ghost use Rattle.desk.specs.held.Holds.{service, Valid, Did};
+ghost use Rattle.checker.specs.held.Answered.{idleDesk, Answered};
+ghost use Rattle.space.specs.held.Points.{Coords};
 
 // One line: its frame is refused or taken, and answered.
 fn one(
@@ -68,8 +37,8 @@ fn one(
     match f {
         Fields::Begin(tolerance) => load::begin(table, room, d, tolerance),
         Fields::Point(x, y, z) => load::add_point(points, table, room, d, x, y, z),
-        Fields::Polygon(n) => load::add_polygon(line, n, entries, starts, room, d),
-        Fields::EndOfLoad => load::end_load(
+        Fields::Polygon(n) => rings::add_polygon(line, n, entries, starts, room, d),
+        Fields::EndOfLoad => ended::end_load(
             points,
             entries,
             starts,
@@ -103,7 +72,7 @@ fn one(
         }
         Fields::Turn(number, p) => {
             let n = p as usize;
-            amend::turn_polygon(
+            turning::turn_polygon(
                 points,
                 entries,
                 starts,
@@ -120,9 +89,9 @@ fn one(
         }
         Fields::Question(p) => {
             let n = p as usize;
-            amend::ask(stamps, findings, parts, room, d, n)
+            asking::ask(stamps, findings, parts, room, d, n)
         }
-        Fields::Broken => answer::refuse(room, d, Refusal::Malformed),
+        Fields::Broken => desk::refuse(room, d, Refusal::Malformed),
     }
 }
 
@@ -204,7 +173,7 @@ fn all(stream: &[u8], room: &mut [u8]) -> usize
     let mut d = idle();
     let mut from = 0;
     while from < stream.len() {
-        let end = frame::line_end(stream, from);
+        let end = lines::line_end(stream, from);
         d = one(
             &stream[from..end],
             &mut points,
@@ -235,7 +204,7 @@ pub extern "C" fn checker_answer(stream: &[u8], room: &mut [u8]) -> i64
     if 65535 < stream.len() {
         return -1;
     }
-    let n = frame::count_lines(stream);
+    let n = lines::count_lines(stream);
     if 1024 < n {
         return -2;
     }

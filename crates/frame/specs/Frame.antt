@@ -1,11 +1,11 @@
 -- The frame table: every line is one frame, or broken (refusal 01).
-use Prim.Native.Nat.{ℕ, zero, suc, _+_, _*_, _-_, _%_}
+use Prim.Native.Nat.{ℕ, _-_, _%_}
 use mathlib.Core.Bool.{Bool, true, false, cond, _&&_}
-use mathlib.Core.List.{List, [], _∷_, _++_}
-use lib.Dec.{ltb, leb, eqb}
+use mathlib.Core.List.{List, [], _∷_}
+use lib.Dec.{leb, eqb}
 use lib.ListN.{length, take, drop}
 use lib.IntN.{ℤ}
-use Rattle.frame.specs.Hex.{allHex, number, signed32}
+use Rattle.hex.specs.Hex.{allHex, number, signed32}
 
 -- a frame, with its fields; a place is three coordinates
 pub data Frame : Type 0 where

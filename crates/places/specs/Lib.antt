@@ -1,6 +1,3 @@
 pub mod Points
-pub mod Places
-pub mod Near
-pub mod Buckets
-pub mod Chains
-pub mod Agree
+pub mod held
+pub mod laws

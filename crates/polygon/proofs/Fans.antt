@@ -11,18 +11,21 @@ use lib.ListN.{length, getD, take, length-map}
 use lib.Seq.{getD-take, length-take-le}
 use lib.IntN.{ℤ}
 use Rattle.whole.specs.Lists.{any, anyTwo, steps, numbered}
-use Rattle.whole.specs.Search.{any-next, two-next}
-use Rattle.whole.specs.Places.{numbered-length, numbered-at, steps-length, steps-at, map-at}
-use Rattle.polygon.specs.declared.Axis.{Axis}
-use Rattle.polygon.specs.Space.{origin, places}
-use Rattle.polygon.specs.Plane.{Spot, Segment, dropAxis, shareMore}
-use Rattle.polygon.specs.Ring.{isUnclosed, isRepeated, forbidden, edgesIn, isCrossed}
-use Rattle.polygon.specs.Held.{pointsOf, placeAt, Coords, Known}
-use Rattle.polygon.specs.Sizes.{point-at}
-use Rattle.polygon.specs.Triangle.{differ}
-use Rattle.polygon.specs.Fan.{every, fans, isFan, some-at, next-apart, last-apart, other-apart}
-use Rattle.polygon.proofs.Pairs.{clash-next, clash-last, clash-other}
-use Rattle.polygon.proofs.Rings.{front-is, closed-is}
+use Rattle.whole.specs.laws.Search.{any-next, two-next}
+use Rattle.whole.specs.laws.Places.{numbered-length, numbered-at, steps-length, steps-at, map-at}
+use Rattle.space.specs.declared.Axis.{Axis}
+use Rattle.space.specs.Space.{origin, places}
+use Rattle.plane.specs.Plane.{Spot, Segment, dropAxis, shareMore}
+use Rattle.ring.specs.Entries.{isUnclosed, isRepeated}
+use Rattle.crossing.specs.Crossed.{forbidden, isCrossed}
+use Rattle.polygon.specs.Ring.{edgesIn}
+use Rattle.space.specs.held.Points.{pointsOf, placeAt, Coords, Known}
+use Rattle.space.specs.laws.Sizes.{point-at}
+use Rattle.polygon.specs.laws.Triangle.{differ}
+use Rattle.fan.specs.held.Fan.{every, fans, isFan}
+use Rattle.polygon.specs.laws.Fan.{some-at, next-apart, last-apart, other-apart}
+use Rattle.crossing.specs.laws.Pairs.{clash-next, clash-last, clash-other}
+use Rattle.ring.specs.laws.Rings.{front-is, closed-is}
 
 -- ---- lists of which no two are related
 module _ {A : Type 0} where

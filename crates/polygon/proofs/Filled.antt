@@ -1,24 +1,26 @@
 -- The numbers of a ring's places on one axis, copied one after another; and the edges between them.
 use Prim.Native.Nat.{ℕ, suc, _+_, _*_, _-_, _≤_, _<_}
 use native.Mathlib.Omega.{arith}
-use native.Mathlib.Decide.{decLt}
 use mathlib.Core.Path.{_≡_, refl, sym, ap, ap₂, _∙_, subst}
 use mathlib.Core.List.{List, [], _∷_, map}
 use lib.ListN.{length, getD, set, length-set, length-map}
-use lib.Seq.{getD-set-same, getD-set-other, ext-getD}
+use lib.Seq.{ext-getD}
 use lib.IntN.{ℤ, pos}
 use Rattle.whole.specs.Lists.{steps, tab}
-use Rattle.whole.specs.Places.{tab-length, tab-at, steps-length, steps-at, map-at}
-use Rattle.whole.specs.Size.{Small}
-use Rattle.polygon.specs.declared.Axis.{Axis}
-use Rattle.polygon.specs.declared.Axis.the-variants.{X, Y, Z}
-use Rattle.polygon.specs.Space.{places}
-use Rattle.polygon.specs.Plane.{Spot, dropAxis}
-use Rattle.polygon.specs.Ring.{edgesIn, isCrossed}
-use Rattle.polygon.specs.Held.{pointsOf, placeAt, Coords, Known}
-use Rattle.polygon.specs.Leaves.{spot, edgeAt, Spread, Filled, seenSpots}
-use Rattle.polygon.specs.Sizes.{point-at}
-use Rattle.polygon.specs.Fan.{spotIn, isFan}
+use Rattle.whole.specs.laws.Places.{tab-length, tab-at, steps-length, steps-at, map-at}
+use Rattle.whole.specs.held.Small.{Small}
+use Rattle.space.specs.declared.Axis.{Axis}
+use Rattle.space.specs.Space.{places}
+use Rattle.plane.specs.Plane.{Spot, dropAxis}
+use Rattle.polygon.specs.Ring.{edgesIn}
+use Rattle.crossing.specs.Crossed.{isCrossed}
+use Rattle.space.specs.held.Points.{pointsOf, Coords, Known}
+use Rattle.plane.specs.held.Edges.{spot, edgeAt}
+use Rattle.crossing.specs.held.Columns.{Spread}
+use Rattle.polygon.specs.held.Columns.{Filled, seenSpots}
+use Rattle.space.specs.laws.Sizes.{point-at}
+use Rattle.fan.specs.laws.Planes.{uOf, vOf, drop-is}
+use Rattle.extents.specs.laws.Copy.{copy-more}
 
 -- ---- the copy: the first i are there
 pub record Filling (flat : List ℤ) (ring : List ℕ) (k n : ℕ) (room : List ℤ) (i : ℕ) : Type 0 where
@@ -28,17 +30,6 @@ pub record Filling (flat : List ℤ) (ring : List ℕ) (k n : ℕ) (room : List 
 
 pub filling-start : (flat : List ℤ) (ring : List ℕ) (k : ℕ) (room : List ℤ) → Filling flat ring k (length room) room 0
 filling-start flat ring k room = record { upto = omega arith; all = refl; each = λ j h. absurd (omega arith) }
-
--- one number more of a copy, whatever is copied
-pub copy-more : {A : Type 0} (d : A) (f : ℕ → A) (room : List A) (i : ℕ) → i < length room → ((j : ℕ) → j < i → getD room j d ≡ f j)
-    → (x : A) → x ≡ f i → (j : ℕ) → j < i + 1 → getD (set room i x) j d ≡ f j
-copy-more d f room i h each x e j g = go (decLt j i)
-  where
-    go : Dec (j < i) → getD (set room i x) j d ≡ f j
-    go (yes p) = getD-set-other room i j x d (λ z. omega arith) ∙ each j p
-    go (no p) =
-        let z : j ≡ i = omega arith in
-        ap (λ (m : ℕ). getD (set room i x) m d) z ∙ getD-set-same room i x d h ∙ e ∙ ap f (sym z)
 
 pub filling-more : {flat : List ℤ} {ring : List ℕ} {k n : ℕ} {room : List ℤ} {i : ℕ} → Filling flat ring k n room i → i < length ring → i < length room
     → (x : ℤ) → x ≡ getD flat (3 * getD ring i 0 + k) (pos 0) → Filling flat ring k n (set room i x) (i + 1)
@@ -92,26 +83,7 @@ module _ {flat : List ℤ} {ring : List ℕ} {j k n : ℕ} {us vs : List ℤ} (h
   unfolding spots
   crossed-is = ap isCrossed edges-are
 
--- ---- the plane left by dropping an axis: the coordinates that it keeps
-abbrev pub uOf : Axis → ℕ
-uOf X = 1
-uOf Y = 2
-uOf Z = 0
-
-abbrev pub vOf : Axis → ℕ
-vOf X = 2
-vOf Y = 0
-vOf Z = 1
-
-plus-zero : (n : ℕ) → n + 0 ≡ n
-plus-zero n = omega arith
-
-drop-is : (axis : Axis) (flat : List ℤ) (p : ℕ) → spot (getD flat (3 * p + uOf axis) (pos 0)) (getD flat (3 * p + vOf axis) (pos 0)) ≡ dropAxis axis (placeAt flat p)
-unfolding dropAxis
-drop-is X flat p = refl
-drop-is Y flat p = λ i. spot (getD flat (3 * p + 2) (pos 0)) (getD flat (plus-zero (3 * p) i) (pos 0))
-drop-is Z flat p = λ i. spot (getD flat (plus-zero (3 * p) i) (pos 0)) (getD flat (3 * p + 1) (pos 0))
-
+-- ---- the plane left by dropping an axis
 pub seen-is : {flat : List ℤ} → Coords flat → (axis : Axis) (ring : List ℕ) → ((i : ℕ) → i < length ring → getD ring i 0 < 512)
     → seenSpots flat ring (uOf axis) (vOf axis) ≡ map (dropAxis axis) (places (pointsOf flat) ring)
 unfolding places
@@ -123,7 +95,3 @@ pub in-plane : {flat : List ℤ} {ring : List ℕ} → Coords flat → Known rin
     → isCrossed (steps (seenSpots flat ring (uOf axis) (vOf axis))) ≡ isCrossed (edgesIn axis (places (pointsOf flat) ring))
 unfolding edgesIn
 in-plane {flat} {ring} h k axis = ap (λ (l : List Spot). isCrossed (steps l)) (seen-is h axis ring (k .each))
-
--- places that fan out in the plane of the coordinates that an axis leaves
-pub fan-plane : (axis : Axis) (flat : List ℤ) (ring : List ℕ) (n : ℕ) → isFan (λ i. spotIn flat (uOf axis) (vOf axis) (getD ring i 0)) n ≡ isFan (λ i. dropAxis axis (placeAt flat (getD ring i 0))) n
-fan-plane axis flat ring n = λ t. isFan (λ i. drop-is axis flat (getD ring i 0) t) n

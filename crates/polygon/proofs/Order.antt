@@ -1,23 +1,22 @@
 -- The checks in order: what is found where the first n have passed and the next fails.
 use Prim.Native.Nat.{ℕ, _≤_, _<_}
-use mathlib.Core.Path.{_≡_, sym, ap, _∙_}
-use mathlib.Core.Bool.{Bool, true, false, not}
+use mathlib.Core.Path.{_≡_, sym, _∙_}
+use mathlib.Core.Bool.{Bool, true, false}
 use mathlib.Core.List.{List, [], _∷_}
 use borrow.Author.Tests.{lt-ltb, le-ltb}
 use lib.ListN.{length}
 use Rattle.whole.specs.All.{none, more}
-use Rattle.whole.specs.First.{first-is, first-none}
+use Rattle.whole.specs.laws.First.{first-is, first-none}
 use Rattle.polygon.specs.declared.Finding.the-variants.{Sound, Short, Unclosed, Repeated, NoNormal, Crossed, Uneven}
-use Rattle.polygon.specs.Space.{Point, places}
-use Rattle.polygon.specs.Plane.{largestAxis}
-use Rattle.polygon.specs.Ring.{finding, isShort, isUnclosed, isRepeated, normal, isZero, edgesIn, isCrossed, isUneven}
-use Rattle.polygon.specs.Checks.{checks, finding-rows}
-use Rattle.polygon.specs.Triangle.{triangle-single, triangle-uncrossed, triangle-even}
-use Rattle.polygon.proofs.Rings.{not-not}
-
--- "last entry differs from first", from whether the ring is closed
-pub unclosed-is : {r u t : Bool} → r ≡ not u → not r ≡ t → u ≡ t
-unclosed-is {r} {u} e h = sym (not-not u) ∙ ap not (sym e) ∙ h
+use Rattle.space.specs.Space.{Point, places}
+use Rattle.plane.specs.Plane.{largestAxis}
+use Rattle.polygon.specs.Ring.{finding, isShort, edgesIn}
+use Rattle.ring.specs.Entries.{isUnclosed, isRepeated}
+use Rattle.normal.specs.Normal.{normal, isZero}
+use Rattle.crossing.specs.Crossed.{isCrossed}
+use Rattle.even.specs.Even.{isUneven}
+use Rattle.polygon.specs.laws.Checks.{checks, finding-rows}
+use Rattle.polygon.specs.laws.Triangle.{triangle-single, triangle-uncrossed, triangle-even}
 
 module _ (tolerance : ℕ) (points : List Point) (ring : List ℕ) where
   abbrev n : Point

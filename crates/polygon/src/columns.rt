@@ -1,27 +1,14 @@
 // Check 05: a ring's places in two columns, those of the plane left by dropping an axis.
-use super::Axis;
-use super::boxes;
-use super::plane;
-use super::space;
+use space::Axis;
 ghost use mathlib.Core.Path.{_≡_};
-ghost use Prim.Native.Nat.{_+_, _*_, _<_, _≤_};
-ghost use lib.ListN.{length, getD};
-ghost use lib.IntN.{pos};
+ghost use Prim.Native.Nat.{_≤_};
+ghost use lib.ListN.{length};
+ghost use Rattle.crossing.specs.Crossed.{isCrossed};
+ghost use Rattle.polygon.specs.Ring.{edgesIn};
 ghost use Rattle.whole.specs.Lists.{steps};
-ghost use Rattle.polygon.specs.Space.{places};
-ghost use Rattle.polygon.specs.Ring.{edgesIn, isCrossed};
-ghost use Rattle.polygon.specs.Held.{pointsOf, Coords, Known};
-ghost use Rattle.polygon.specs.Leaves.{Filled, seenSpots};
-
-// Coordinate k of point p.
-pub fn coordinate(points: &[i32; 1536], p: u16, k: usize) -> i64
-    requires { ⌜ Coords (now points) ⌝ }
-    requires { ⌜ (p < 512) × (k ≤ 2) ⌝ }
-    ensures { λ r. ⌜ r ≡ getD (now (points .entry)) (3 * p + k) (pos 0) ⌝ }
-{
-    let i = 3 * (p as usize) + k;
-    space::long(points[i])
-}
+ghost use Rattle.space.specs.Space.{places};
+ghost use Rattle.space.specs.held.Points.{pointsOf, Coords, Known};
+ghost use Rattle.polygon.specs.held.Columns.{Filled, seenSpots};
 
 // Coordinate k of the ring's entries, one after another, into lent room.
 fn fill(points: &[i32; 1536], ring: &[u16], k: usize, room: &mut [i64])
@@ -32,7 +19,7 @@ fn fill(points: &[i32; 1536], ring: &[u16], k: usize, room: &mut [i64])
 {
     let mut i: usize = 0;
     while i < ring.len() {
-        let x = coordinate(points, ring[i], k);
+        let x = space::coordinate(points, ring[i], k);
         room[i] = x;
         i += 1;
     }
@@ -49,7 +36,7 @@ fn crossed_few(points: &[i32; 1536], ring: &[u16], j: usize, k: usize) -> bool
     let mut vs: [i64; 8] = [0; 8];
     fill(points, ring, j, &mut us);
     fill(points, ring, k, &mut vs);
-    plane::crossings(&us, &vs, ring.len() - 1)
+    crossing::crossings(&us, &vs, ring.len() - 1)
 }
 
 // 05 of any ring, in the plane of coordinates j and k.

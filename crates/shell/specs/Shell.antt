@@ -1,15 +1,15 @@
 -- All rings together: checks 07 to 0C.
-use Prim.Native.Nat.{ℕ, zero, suc, _+_, _*_, _/_, _%_}
+use Prim.Native.Nat.{ℕ}
 use mathlib.Core.Bool.{Bool, true, false, _&&_, _||_}
-use mathlib.Core.List.{List, [], _∷_, _++_, map}
-use mathlib.Core.Option.{Option, none, some, Option·map}
+use mathlib.Core.List.{List, [], _∷_, map}
+use mathlib.Core.Option.{Option, Option·map}
 use lib.Dec.{eqb, ltb}
 use lib.ListN.{length, getD}
 use Rattle.whole.specs.Lists.{given, first, any, keep, numbered, lists, least}
 use Rattle.shell.specs.declared.Shape.{Shape}
 use Rattle.shell.specs.declared.Shape.the-variants.{Whole, Few, Once, Often, Alike, Apart, Unlinked}
-use Rattle.shell.specs.Edges.{edgesOf, smaller, larger, all, usedOnce, usedOften, usedAlike}
-use Rattle.shell.specs.Reach.{unreached}
+use Rattle.edges.specs.Edges.{edgesOf, smaller, larger, all, usedOnce, usedOften, usedAlike}
+use Rattle.reach.specs.Reach.{unreached}
 
 -- the column No.
 unfoldable pub shapeNumber : Shape → ℕ

@@ -1,3 +1,2 @@
 pub mod Value
-pub mod Order
-pub mod Agree
+pub mod laws

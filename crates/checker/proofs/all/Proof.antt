@@ -1,14 +1,11 @@
 -- `checker::all` meets its contract.
-use Rattle.checker.specs.Loop.{running-idle, running-turn, running-end, room-left, valid-idle}
-use Rattle.checker.specs.Holds.{Running}
-use Rattle.checker.specs.declared.Desk.{Desk}
-use Rattle.building.specs.Holds.{arrays}
-use Rattle.frame.specs.LineLaws.{end-above, end-inside}
+use Rattle.checker.specs.laws.Loop.{running-idle, running-turn, running-end, room-left, valid-idle, Running}
+use Rattle.building.specs.held.Holds.{arrays}
+use Rattle.lines.specs.laws.LineLaws.{end-above, end-inside}
 use borrow.Author.Needs.{needs}
 use lib.ListN.{length}
 use native.Mathlib.Omega.{arith}
 use Prim.Native.Nat.{_+_, _-_}
-use mathlib.Core.Path.{_≡_, refl, sym, ap, _∙_, subst}
 use Rattle.checker.proofs.all.Statement.{statement}
 use Rattle.checker.proofs.all.Tie as tie
 

@@ -1,8 +1,8 @@
 -- `checker::checker_answer` meets its contract.
 use mir.Syntax.{w64}
 use mir.Facts.{toZ-pos}
-use Rattle.checker.specs.Loop.{entry-empty, entry-long, entry-many, entry-narrow, entry-answered}
-use Rattle.checker.specs.Short.{answers-short}
+use Rattle.checker.specs.laws.Loop.{entry-empty, entry-long, entry-many, entry-narrow, entry-answered}
+use Rattle.service.specs.laws.Short.{answers-short}
 use native.Mathlib.Omega.{arith}
 use borrow.Author.Needs.{needs}
 use Rattle.checker.proofs.checker_answer.Statement.{statement}

@@ -1,5 +1,5 @@
 -- `checker::fresh_points` meets its contract.
-use Rattle.checker.specs.Loop.{fresh-coords}
+use Rattle.checker.specs.laws.Loop.{fresh-coords}
 use mathlib.Core.Path.{refl}
 use Rattle.checker.proofs.fresh_points.Statement.{statement}
 use Rattle.checker.proofs.fresh_points.Tie as tie

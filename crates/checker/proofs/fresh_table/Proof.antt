@@ -1,5 +1,5 @@
 -- `checker::fresh_table` meets its contract.
-use Rattle.checker.specs.Loop.{all-alike}
+use Rattle.checker.specs.laws.Loop.{all-alike}
 use lib.ListN.{length-replicate}
 use Prim.Native.Nat.{ℕ}
 use Rattle.checker.proofs.fresh_table.Statement.{statement}

@@ -1,19 +1,19 @@
 -- `checker::one` meets its contract.
 use mir.Syntax.{w64}
-use Rattle.checker.specs.Dids.{did-refused}
-use Rattle.checker.specs.Loop.{did-step}
-use Rattle.checker.specs.Holds.{service}
-use Rattle.checker.specs.Handlers.{of-broken}
-use Rattle.checker.specs.Refusals.{isAccepted}
-use Rattle.checker.specs.declared.Refusal.the-variants.{Malformed}
-use Rattle.frame.specs.Frame.{begin, point, polygon, end-of-load, move, turn, question, broken, decode, numbers}
-use Rattle.frame.specs.Decoded.{polygon-count, polygon-few, polygon-listed, polygon-ring}
-use Rattle.frame.specs.Meaning.{meaning}
+use Rattle.desk.specs.laws.Dids.{did-refused}
+use Rattle.checker.specs.laws.Loop.{did-step}
+use Rattle.desk.specs.held.Holds.{service}
+use Rattle.service.specs.laws.Handlers.{of-broken}
+use Rattle.service.specs.Service.{isAccepted}
+use Rattle.service.specs.declared.Refusal.the-variants.{Malformed}
+use Rattle.frame.specs.Frame.{begin, point, polygon, end-of-load, move, broken, decode, numbers}
+use Rattle.frame.specs.laws.Decoded.{polygon-count, polygon-few, polygon-listed, polygon-ring}
+use Rattle.frame.specs.held.Meaning.{meaning}
 use Rattle.frame.specs.declared.Fields.the-variants.{Polygon}
 use Rattle.frame.specs.declared.Fields.{Fields}
 use lib.ListN.{drop}
 use mir.Facts.{toZ-ofZ}
-use Rattle.building.specs.Holds.{Arrays, arrays}
+use Rattle.building.specs.held.Holds.{Arrays, arrays}
 use mathlib.Core.Path.{_≡_, refl, sym, ap, _∙_}
 use borrow.Author.Needs.{needs}
 use Rattle.checker.proofs.one.Statement.{statement}

@@ -3,8 +3,8 @@ use mathlib.Core.Path.{sym, ap, _∙_}
 use borrow.Author.Tests.{not-true, not-false}
 use borrow.Author.Needs.{needs}
 use Rattle.frame.specs.Frame.{Kind, kindOf}
-use Rattle.frame.specs.Meaning.{meaning}
-use Rattle.frame.specs.Decoded.{decode-short, decode-other, decode-kind, decode-unknown, kind-unknown}
+use Rattle.frame.specs.held.Meaning.{meaning}
+use Rattle.frame.specs.laws.Decoded.{decode-short, decode-other, decode-kind, decode-unknown, kind-unknown}
 use Rattle.frame.proofs.decode.Statement.{statement}
 use Rattle.frame.proofs.decode.Tie as tie
 

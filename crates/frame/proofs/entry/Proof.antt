@@ -2,7 +2,7 @@
 use native.Mathlib.Omega.{arith}
 use mathlib.Core.Path.{_∙_}
 use borrow.Author.Needs.{needs}
-use Rattle.frame.specs.Decoded.{entry-inside, entry-is}
+use Rattle.frame.specs.laws.Decoded.{entry-inside, entry-is}
 use Rattle.frame.proofs.entry.Statement.{statement}
 use Rattle.frame.proofs.entry.Tie as tie
 

@@ -1,8 +1,8 @@
 -- `read_end_of_load` meets its contract: the kind's two digits alone.
 use borrow.Author.Tests.{ne-eqb}
 use Rattle.frame.specs.Frame.{Kind, fits}
-use Rattle.frame.specs.Meaning.{meaning}
-use Rattle.frame.specs.Decoded.{shaped-broken, end-is}
+use Rattle.frame.specs.held.Meaning.{meaning}
+use Rattle.frame.specs.laws.Decoded.{shaped-broken, end-is}
 use Rattle.frame.proofs.read_end_of_load.Statement.{statement}
 use Rattle.frame.proofs.read_end_of_load.Tie as tie
 

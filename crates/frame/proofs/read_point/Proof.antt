@@ -2,9 +2,9 @@
 use borrow.Author.Tests.{ne-eqb}
 use borrow.Author.Needs.{needs}
 use Rattle.frame.specs.Frame.{Kind, fits}
-use Rattle.frame.specs.Meaning.{meaning}
-use Rattle.frame.specs.Decoded.{shaped-broken, field-of, point-is}
-use Rattle.frame.specs.Signed.{signed-back}
+use Rattle.frame.specs.held.Meaning.{meaning}
+use Rattle.frame.specs.laws.Decoded.{shaped-broken, field-of, point-is}
+use Rattle.hex.specs.laws.Signed.{signed-back}
 use Rattle.frame.proofs.read_point.Statement.{statement}
 use Rattle.frame.proofs.read_point.Tie as tie
 

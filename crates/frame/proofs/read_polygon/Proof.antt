@@ -1,8 +1,8 @@
 -- `read_polygon` meets its contract: at most 514 digits, two more than a multiple of four.
 use mathlib.Core.Path.{refl}
 use borrow.Author.Needs.{needs}
-use Rattle.frame.specs.Decoded.{polygon-is, polygon-odd, polygon-long}
-use Rattle.frame.specs.Meaning.{meaning}
+use Rattle.frame.specs.laws.Decoded.{polygon-is, polygon-odd, polygon-long}
+use Rattle.frame.specs.held.Meaning.{meaning}
 use Rattle.frame.proofs.read_polygon.Statement.{statement}
 use Rattle.frame.proofs.read_polygon.Tie as tie
 

@@ -2,8 +2,8 @@
 use borrow.Author.Tests.{ne-eqb}
 use borrow.Author.Needs.{needs}
 use Rattle.frame.specs.Frame.{Kind, fits}
-use Rattle.frame.specs.Meaning.{meaning}
-use Rattle.frame.specs.Decoded.{shaped-broken, turn-is}
+use Rattle.frame.specs.held.Meaning.{meaning}
+use Rattle.frame.specs.laws.Decoded.{shaped-broken, turn-is}
 use Rattle.frame.proofs.read_turn.Statement.{statement}
 use Rattle.frame.proofs.read_turn.Tie as tie
 

@@ -1,7 +1,7 @@
 -- `framecheck::tell` meets its contract.
 use mir.Facts.{fits-natAbs}
 use mir.Syntax.{w64}
-use Rattle.frame.specs.Signed.{seen, bits-pos}
+use Rattle.hex.specs.laws.Signed.{seen, bits-pos}
 use borrow.Author.Needs.{needs}
 use Rattle.framecheck.proofs.tell.Statement.{statement}
 use Rattle.framecheck.proofs.tell.Tie as tie

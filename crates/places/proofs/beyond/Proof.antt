@@ -4,7 +4,7 @@ use mathlib.Core.Bool.{_||_}
 use lib.IntN.{ℤ, pos, negsuc}
 use lib.Signed.{ltZ}
 use mir.Facts.{toZ-ofZ}
-use Rattle.places.specs.Places.{beyond-is}
+use Rattle.places.specs.laws.Places.{beyond-is}
 use Rattle.places.proofs.beyond.Statement.{statement}
 use Rattle.places.proofs.beyond.Tie as tie
 

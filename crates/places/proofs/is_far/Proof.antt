@@ -1,7 +1,7 @@
 -- `places::is_far` meets its contract: its three tests are those of the definition, the numbers read back from their bits.
 use mir.Syntax.{w64}
 use mir.Val.{ofZ, toZ}
-use Rattle.places.specs.Places.{far-is, point-bits}
+use Rattle.places.specs.laws.Places.{far-is, point-bits}
 use mathlib.Core.Path.{ap, _∙_}
 use Rattle.places.specs.Points.{isFar}
 use borrow.Author.Needs.{needs}

@@ -1,7 +1,7 @@
 -- `places::narrow` meets its contract. A coordinate fits either width.
 use mathlib.Core.Path.{_∙_}
 use mir.Syntax.{w32, w64}
-use Rattle.whole.specs.Size.{small-fits, small-back, back-small}
+use Rattle.whole.specs.laws.Size.{small-fits, small-back, back-small}
 use Rattle.places.proofs.narrow.Statement.{statement}
 use Rattle.places.proofs.narrow.Tie as tie
 

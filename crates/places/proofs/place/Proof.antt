@@ -3,9 +3,9 @@ use Prim.Native.Nat.{_+_, _*_}
 use mathlib.Core.Path.{_∙_}
 use lib.ListN.{set}
 use mir.Syntax.{w32, w64}
-use Rattle.whole.specs.Size.{small-back, back-small, call-is}
-use Rattle.places.specs.Points.{point3}
-use Rattle.places.specs.Near.{near-place}
+use Rattle.whole.specs.laws.Size.{small-back, back-small, call-is}
+use Rattle.places.specs.held.Places.{point3}
+use Rattle.places.specs.laws.Near.{near-place}
 use borrow.Author.Needs.{needs}
 use Rattle.places.proofs.place.Statement.{statement}
 use Rattle.places.proofs.place.Tie as tie

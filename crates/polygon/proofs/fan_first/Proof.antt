@@ -6,14 +6,15 @@ use mathlib.Core.List.{List}
 use Prim.Native.Nat.{_-_}
 use lib.ListN.{length, getD}
 use borrow.Author.Needs.{needs}
-use Rattle.polygon.specs.Sizes.{near-same, normal-near}
-use Rattle.polygon.specs.Held.{pointsOf, placeAt}
-use Rattle.polygon.specs.Ring.{normal, isZero, isUneven}
-use Rattle.polygon.specs.Plane.{largestAxis, dropAxis}
-use Rattle.polygon.specs.Fan.{isFan}
-use Rattle.polygon.specs.Leaves.{Near, asPoint}
-use Rattle.polygon.specs.Space.{Point, places}
-use Rattle.polygon.specs.declared.Axis.{Axis}
+use Rattle.space.specs.laws.Sizes.{near-same}
+use Rattle.normal.specs.laws.Sizes.{normal-near}
+use Rattle.space.specs.held.Points.{pointsOf, placeAt, Near, asPoint}
+use Rattle.normal.specs.Normal.{normal, isZero}
+use Rattle.even.specs.Even.{isUneven}
+use Rattle.plane.specs.Plane.{largestAxis, dropAxis}
+use Rattle.fan.specs.held.Fan.{isFan}
+use Rattle.space.specs.Space.{Point, places}
+use Rattle.space.specs.declared.Axis.{Axis}
 use Rattle.polygon.proofs.Order.{found-uneven, found-sound}
 use Rattle.polygon.proofs.Fans.{fan-single, fan-uncrossed}
 use Rattle.polygon.proofs.fan_first.Statement.{statement}
@@ -38,8 +39,8 @@ fan c =
     let s = c .before .before .before .before .before .before in
     ap (λ (x : Axis). isFan (λ i. dropAxis x (placeAt (s .args .points .now) (getD (s .args .ring .now) i 0))) (length (s .args .ring .now) - 3)) (sym (c .before .before .largest-axis .ensures ∙ ap largestAxis (s .pre .1 .1 .1))) ∙ sym (c .before .is-fan .ensures) ∙ c .if2 .taken
 
-uneven-is : (c : tie.After-is-uneven) → let s = c .before .before .before .before .before .before .before in isUneven (s .args .tolerance) (normal (spots s)) (spots s) ≡ c .is-uneven .result
-uneven-is c = let s = c .before .before .before .before .before .before .before in ap (λ (n : Point). isUneven (s .args .tolerance) n (spots s)) (sym (s .pre .1 .1 .1)) ∙ sym (c .is-uneven .ensures)
+uneven-is : (c : tie.After-is-uneven-closed) → let s = c .before .before .before .before .before .before .before in isUneven (s .args .tolerance) (normal (spots s)) (spots s) ≡ c .is-uneven-closed .result
+uneven-is c = let s = c .before .before .before .before .before .before .before in ap (λ (n : Point). isUneven (s .args .tolerance) n (spots s)) (sym (s .pre .1 .1 .1)) ∙ sym (c .is-uneven-closed .ensures)
 
 -- ---- the needs
 is-zero-requires : tie.Need-is-zero-requires
@@ -57,8 +58,8 @@ largest-axis-requires c κs = near (c .before .before .before)
 is-fan-requires : tie.Need-is-fan-requires
 is-fan-requires c κs = search needs
 
-is-uneven-requires : tie.Need-is-uneven-requires
-is-uneven-requires c κs =
+is-uneven-closed-requires : tie.Need-is-uneven-closed-requires
+is-uneven-closed-requires c κs =
     let s = c .before .before .before .before .before .before in
     let h = s .pre .1 .1 .0 in
     (s .pre .0, (s .pre .1 .0, ((omega (arith, h .1), h .2, h .0), s .pre .1 .1 .1)))
@@ -92,7 +93,7 @@ fan-first-spec =
     returns
     largest-axis-requires
     is-fan-requires
-    is-uneven-requires
+    is-uneven-closed-requires
     returns-2
     returns-3
     third-on-requires-2

@@ -7,12 +7,14 @@ use Prim.Native.Nat.{_≤_}
 use lib.ListN.{length}
 use borrow.Author.Tests.{not-true}
 use borrow.Author.Needs.{needs}
-use Rattle.polygon.specs.Sizes.{near-same, normal-near}
-use Rattle.polygon.specs.Held.{pointsOf}
-use Rattle.polygon.specs.Ring.{isUnclosed, normal, isZero}
-use Rattle.polygon.specs.Leaves.{Near, asPoint}
-use Rattle.polygon.specs.Space.{Point, places}
-use Rattle.polygon.proofs.Order.{unclosed-is, found-short, found-unclosed, found-triangle}
+use Rattle.space.specs.laws.Sizes.{near-same}
+use Rattle.normal.specs.laws.Sizes.{normal-near}
+use Rattle.space.specs.held.Points.{pointsOf, Near, asPoint}
+use Rattle.ring.specs.Entries.{isUnclosed}
+use Rattle.normal.specs.Normal.{normal, isZero}
+use Rattle.space.specs.Space.{Point, places}
+use Rattle.ring.specs.laws.Rings.{unclosed-is}
+use Rattle.polygon.proofs.Order.{found-short, found-unclosed, found-triangle}
 use Rattle.polygon.proofs.first_failing.Statement.{statement}
 use Rattle.polygon.proofs.first_failing.Tie as tie
 

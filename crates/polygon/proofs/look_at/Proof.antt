@@ -5,11 +5,13 @@ use Prim.Native.Nat.{_≤_}
 use lib.ListN.{length, getD}
 use mir.Syntax.{w64}
 use borrow.Author.Needs.{needs}
-use Rattle.whole.specs.Size.{call-is}
-use Rattle.polygon.specs.Held.{pointsOf}
-use Rattle.polygon.specs.Sizes.{near-same, near-more, near-place, normal-near}
+use Rattle.whole.specs.laws.Size.{call-is}
+use Rattle.space.specs.held.Points.{pointsOf}
+use Rattle.space.specs.laws.Sizes.{near-same, near-more, near-place}
+use Rattle.normal.specs.laws.Sizes.{normal-near}
 use Rattle.polygon.proofs.Order.{found-short}
-use Rattle.polygon.proofs.Sums.{part-none, about-first}
+use Rattle.volume.specs.laws.Sums.{part-none}
+use Rattle.polygon.specs.laws.FromNormal.{about-first}
 use Rattle.polygon.proofs.look_at.Statement.{statement}
 use Rattle.polygon.proofs.look_at.Tie as tie
 

@@ -4,13 +4,17 @@ use mathlib.Core.Path.{_≡_, _∙_, sym, ap}
 use mathlib.Core.Bool.{false}
 use mathlib.Core.List.{List}
 use borrow.Author.Needs.{needs}
-use Rattle.polygon.specs.Sizes.{near-same, normal-near}
-use Rattle.polygon.specs.Held.{pointsOf}
-use Rattle.polygon.specs.Ring.{isRepeated, normal, isZero, edgesIn, isCrossed, isUneven}
-use Rattle.polygon.specs.Plane.{largestAxis}
-use Rattle.polygon.specs.Leaves.{Near, asPoint}
-use Rattle.polygon.specs.Space.{Point, places}
-use Rattle.polygon.specs.declared.Axis.{Axis}
+use Rattle.space.specs.laws.Sizes.{near-same}
+use Rattle.normal.specs.laws.Sizes.{normal-near}
+use Rattle.space.specs.held.Points.{pointsOf, Near, asPoint}
+use Rattle.ring.specs.Entries.{isRepeated}
+use Rattle.normal.specs.Normal.{normal, isZero}
+use Rattle.polygon.specs.Ring.{edgesIn}
+use Rattle.crossing.specs.Crossed.{isCrossed}
+use Rattle.even.specs.Even.{isUneven}
+use Rattle.plane.specs.Plane.{largestAxis}
+use Rattle.space.specs.Space.{Point, places}
+use Rattle.space.specs.declared.Axis.{Axis}
 use Rattle.polygon.proofs.Order.{found-repeated, found-no-normal, found-crossed, found-uneven, found-sound}
 use Rattle.polygon.proofs.third_on.Statement.{statement}
 use Rattle.polygon.proofs.third_on.Tie as tie

@@ -4,7 +4,7 @@ use Prim.Native.Nat.{_-_}
 use mir.Syntax.{w64}
 use lib.ListN.{length}
 use borrow.Author.Needs.{needs}
-use Rattle.whole.specs.Size.{call-is}
+use Rattle.whole.specs.laws.Size.{call-is}
 use Rattle.polygon.proofs.Filled.{Filling, filling-start, filling-more, filling-end}
 use Rattle.polygon.proofs.columns.fill.Statement.{statement}
 use Rattle.polygon.proofs.columns.fill.Tie as tie

@@ -1,11 +1,12 @@
 -- `polygon::columns::is_crossed` meets its contract. Each axis keeps the two coordinates that the call names.
 use mathlib.Core.Path.{_∙_, sym, ap}
 use borrow.Author.Needs.{needs}
-use Rattle.polygon.specs.Held.{pointsOf}
-use Rattle.polygon.specs.Ring.{edgesIn, isCrossed}
-use Rattle.polygon.specs.Space.{places}
-use Rattle.polygon.specs.declared.Axis.the-variants.{X, Y, Z}
-use Rattle.polygon.specs.declared.Axis.{Axis}
+use Rattle.space.specs.held.Points.{pointsOf}
+use Rattle.polygon.specs.Ring.{edgesIn}
+use Rattle.crossing.specs.Crossed.{isCrossed}
+use Rattle.space.specs.Space.{places}
+use Rattle.space.specs.declared.Axis.the-variants.{X, Y, Z}
+use Rattle.space.specs.declared.Axis.{Axis}
 use Rattle.polygon.proofs.Filled.{in-plane}
 use Rattle.polygon.proofs.columns.is_crossed.Statement.{statement}
 use Rattle.polygon.proofs.columns.is_crossed.Tie as tie

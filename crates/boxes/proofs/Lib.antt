@@ -1,0 +1,4 @@
+mod Around
+mod Nearness
+mod Nexts
+mod Siding

@@ -1,0 +1,173 @@
+-- The thirteen checks one by one: a building is accepted exactly when none fails, otherwise the first failing one is named with its element.
+use Prim.Native.Nat.{ℕ, suc, _+_}
+use native.Mathlib.Omega.{arith}
+use mathlib.Core.Path.{_≡_, refl, ap, _∙_}
+use mathlib.Core.Bool.{Bool, true, false, true≢false, false≢true}
+use mathlib.Core.List.{List, [], _∷_, _++_, map}
+use mathlib.Core.Option.{Option, none, some, Option·map}
+use lib.Dec.{eqb, ltb}
+use lib.ListN.{length}
+use lib.IntN.{pos}
+use lib.Signed.{leZ}
+use Rattle.whole.specs.Lists.{given, first, firstGiven, numberedFrom, numbered, tally}
+use Rattle.whole.specs.All as A
+use Rattle.whole.specs.All.{All}
+use Rattle.whole.specs.laws.Alls.{all-imp}
+use Rattle.polygon.specs.declared.Finding.{Finding}
+use Rattle.polygon.specs.declared.Finding.the-variants.{Sound, Short, Unclosed, Repeated, NoNormal, Crossed, Uneven}
+use Rattle.space.specs.Space.{Point, places}
+use Rattle.plane.specs.Plane.{largestAxis}
+use Rattle.polygon.specs.Ring.{isShort, edgesIn, finding, findingNumber}
+use Rattle.ring.specs.Entries.{isUnclosed, isRepeated}
+use Rattle.normal.specs.Normal.{normal, isZero}
+use Rattle.crossing.specs.Crossed.{isCrossed}
+use Rattle.even.specs.Even.{isUneven}
+use Rattle.shell.specs.declared.Shape.{Shape}
+use Rattle.shell.specs.declared.Shape.the-variants.{Whole, Few, Once, Often, Alike, Apart, Unlinked}
+use Rattle.edges.specs.Edges.{smaller, larger, usedOnce, usedOften, usedAlike}
+use Rattle.shell.specs.Shell.{notReached, notLinked, byEnds, shape, shapeNumber}
+use Rattle.building.specs.declared.Verdict.the-variants.{Accepted, Faulty, Unsound, Inward}
+use Rattle.building.specs.Tables.{Tables, Polygon}
+use Rattle.building.specs.Report.{checkNumber, shapeFault, findings, isFault, lowestFault, sixVolume, verdict}
+use Rattle.building.specs.laws.Accepted as Acc
+use Rattle.building.specs.Thirteen.{Passes, Manifold, NoneOfThirteen}
+use Rattle.building.specs.laws.Accepted.{accepted-none-fails, none-fails-accepted, zero-accepted, rows, rows-sound, to-map}
+
+-- ---- one polygon
+
+six : (s u r n c e : Bool) → first Sound (given s Short ∷ given u Unclosed ∷ given r Repeated ∷ given n NoNormal ∷ given c Crossed ∷ given e Uneven ∷ []) ≡ Sound
+    → (s ≡ false) × (u ≡ false) × (r ≡ false) × (n ≡ false) × (c ≡ false) × (e ≡ false)
+unfolding first given isFault findingNumber
+six true u r n c e q = absurd (true≢false (ap isFault q))
+six false true r n c e q = absurd (true≢false (ap isFault q))
+six false false true n c e q = absurd (true≢false (ap isFault q))
+six false false false true c e q = absurd (true≢false (ap isFault q))
+six false false false false true e q = absurd (true≢false (ap isFault q))
+six false false false false false true q = absurd (true≢false (ap isFault q))
+six false false false false false false q = (refl, refl, refl, refl, refl, refl)
+
+pub sound-passes : (tolerance : ℕ) (points : List Point) (ring : Polygon) → finding tolerance points ring ≡ Sound → Passes tolerance points ring
+unfolding finding
+sound-passes tolerance points ring q =
+    let n = normal (places points ring) in
+    let r = six (isShort ring) (isUnclosed ring) (isRepeated ring) (isZero n) (isCrossed (edgesIn (largestAxis n) (places points ring))) (isUneven tolerance n (places points ring)) q in
+    record { not-01 = r .0; not-02 = r .1; not-03 = r .2; not-04 = r .3; not-05 = r .4; not-06 = r .5 }
+
+pub passes-sound : (tolerance : ℕ) (points : List Point) (ring : Polygon) → Passes tolerance points ring → finding tolerance points ring ≡ Sound
+unfolding finding first given
+passes-sound tolerance points ring p = rw (p .not-01, p .not-02, p .not-03, p .not-04, p .not-05, p .not-06)
+
+-- ---- all rings
+
+isWhole : Shape → Bool
+isWhole s = eqb (shapeNumber s) 0
+
+six-shapes : (f : Bool) (n : ℕ) (o m a : Option ℕ) (r l : Option ℕ)
+    → first Whole (given f (Few n) ∷ Option·map (byEnds Once) o ∷ Option·map (byEnds Often) m ∷ Option·map (byEnds Alike) a ∷ Option·map Apart r ∷ Option·map Unlinked l ∷ []) ≡ Whole
+    → (f ≡ false) × (o ≡ none) × (m ≡ none) × (a ≡ none) × (r ≡ none) × (l ≡ none)
+unfolding first given byEnds isWhole shapeNumber
+six-shapes true n o m a r l q = absurd (false≢true (ap isWhole q))
+six-shapes false n (some e) m a r l q = absurd (false≢true (ap isWhole q))
+six-shapes false n none (some e) a r l q = absurd (false≢true (ap isWhole q))
+six-shapes false n none none (some e) r l q = absurd (false≢true (ap isWhole q))
+six-shapes false n none none none (some p) l q = absurd (false≢true (ap isWhole q))
+six-shapes false n none none none none (some v) q = absurd (false≢true (ap isWhole q))
+six-shapes false n none none none none none q = (refl, refl, refl, refl, refl, refl)
+
+pub whole-manifold : (rings : List Polygon) → shape rings ≡ Whole → Manifold rings
+unfolding shape
+whole-manifold rings q =
+    let r = six-shapes (ltb (length rings) 4) (length rings) (usedOnce rings) (usedOften rings) (usedAlike rings) (notReached rings) (notLinked rings) q in
+    record { not-07 = r .0; not-08 = r .1; not-09 = r .2; not-0A = r .3; not-0B = r .4; not-0C = r .5 }
+
+pub manifold-whole : (rings : List Polygon) → Manifold rings → shape rings ≡ Whole
+unfolding shape first given
+manifold-whole rings m = rw (m .not-07, m .not-08, m .not-09, m .not-0A, m .not-0B, m .not-0C)
+
+-- ---- "accepted exactly when none of the thirteen fails"
+
+pub accepted-none : (t : Tables) → verdict t ≡ Accepted → NoneOfThirteen t
+accepted-none t e =
+    let n = accepted-none-fails t e in
+    record { polygons-pass = all-imp (λ r q. sound-passes (t .tolerance) (t .points) r q) (n .each); rings-pass = whole-manifold (t .polygons) (n .closed); not-0D = n .outward }
+
+pub none-accepted : (t : Tables) → NoneOfThirteen t → verdict t ≡ Accepted
+none-accepted t n =
+    none-fails-accepted t
+    (record { each = all-imp (λ r q. passes-sound (t .tolerance) (t .points) r q) (n .polygons-pass); closed = manifold-whole (t .polygons) (n .rings-pass); outward = n .not-0D })
+
+-- "Check 00 with 0, 0 is acceptance": no other verdict is so numbered
+pub zero-none : (t : Tables) → checkNumber (verdict t) ≡ 0 → NoneOfThirteen t
+zero-none t e = accepted-none t (zero-accepted t e)
+
+pub none-counted : (t : Tables) → NoneOfThirteen t → tally isFault (findings t) ≡ 0
+none-counted t n = Acc.none-counted t (accepted-none-fails t (none-accepted t n))
+
+-- ---- "otherwise the first failing one is reported with its element"
+
+rows-at : (f : Polygon → Finding) (n : ℕ) (done : List Polygon) (ring : Polygon) (rest : List Polygon) → All (λ (r : Polygon). f r ≡ Sound) done → isFault (f ring) ≡ true
+    → firstGiven (rows n (map f (done ++ ring ∷ rest))) ≡ some (Faulty (n + length done) (f ring))
+unfolding rows firstGiven given numberedFrom isFault findingNumber
+rows-at f n [] ring rest A.none e = let m : n ≡ n + 0 = omega arith in rw e (ap (λ (k : ℕ). some (Faulty k (f ring))) m)
+rows-at f n (r ∷ done) ring rest (A.more q a) e =
+    let ih : firstGiven (rows (suc n) (map f (done ++ ring ∷ rest))) ≡ some (Faulty (suc n + length done) (f ring)) = rows-at f (suc n) done ring rest a e in
+    let m : suc n + length done ≡ n + suc (length done) = omega arith in
+    rw q (ih ∙ ap (λ (k : ℕ). some (Faulty k (f ring))) m)
+
+-- "the report names the lowest such polygon as a, with its check"
+pub named-polygon : (t : Tables) (done : List Polygon) (ring : Polygon) (rest : List Polygon) → t .polygons ≡ done ++ ring ∷ rest
+    → All (λ (r : Polygon). finding (t .tolerance) (t .points) r ≡ Sound) done → isFault (finding (t .tolerance) (t .points) ring) ≡ true
+    → verdict t ≡ Faulty (length done) (finding (t .tolerance) (t .points) ring)
+unfolding verdict lowestFault numbered rows findings first
+named-polygon t done ring rest e a q =
+    let f : Polygon → Finding = finding (t .tolerance) (t .points) in
+    let m : 0 + length done ≡ length done = omega arith in
+    let r : firstGiven (rows 0 (map f (t .polygons))) ≡ some (Faulty (length done) (f ring)) = ap (λ (l : List Polygon). firstGiven (rows 0 (map f l))) e ∙ rows-at f 0 done ring rest a q ∙ ap (λ (k : ℕ). some (Faulty k (f ring))) m in
+    rw r
+
+module _ (t : Tables) (each : All (λ (r : Polygon). finding (t .tolerance) (t .points) r ≡ Sound) (t .polygons)) where
+  no-rows : firstGiven (rows 0 (map (finding (t .tolerance) (t .points)) (t .polygons))) ≡ none
+  no-rows = rows-sound 0 (map (finding (t .tolerance) (t .points)) (t .polygons)) (to-map (finding (t .tolerance) (t .points)) (λ f. f ≡ Sound) (t .polygons) each)
+
+  -- "Only if none has one are these tried"
+  pub then-shape : verdict t ≡ first Accepted (shapeFault (shape (t .polygons)) ∷ given (leZ (sixVolume t) (pos 0)) Inward ∷ [])
+  unfolding verdict lowestFault numbered rows findings first
+  then-shape = rw no-rows
+
+  failing : (s : Shape) → shape (t .polygons) ≡ s → ltb 0 (shapeNumber s) ≡ true → verdict t ≡ Unsound s
+  unfolding first given shapeFault
+  failing s e f = then-shape ∙ (rw (e, f))
+
+  module _ (rs : List Polygon) (all : t .polygons ≡ rs) where
+    pub named-07 : ltb (length rs) 4 ≡ true → verdict t ≡ Unsound (Few (length rs))
+    unfolding shape first given shapeNumber
+    named-07 h = failing (Few (length rs)) (rw (all, h)) refl
+
+    module _ (not-07 : ltb (length rs) 4 ≡ false) where
+      pub named-08 : (e : ℕ) → usedOnce rs ≡ some e → verdict t ≡ Unsound (Once (smaller e) (larger e))
+      unfolding shape first given shapeNumber byEnds
+      named-08 e h = failing (Once (smaller e) (larger e)) (rw (all, not-07, h)) refl
+
+      module _ (not-08 : usedOnce rs ≡ none) where
+        pub named-09 : (e : ℕ) → usedOften rs ≡ some e → verdict t ≡ Unsound (Often (smaller e) (larger e))
+        unfolding shape first given shapeNumber byEnds
+        named-09 e h = failing (Often (smaller e) (larger e)) (rw (all, not-07, not-08, h)) refl
+
+        module _ (not-09 : usedOften rs ≡ none) where
+          pub named-0A : (e : ℕ) → usedAlike rs ≡ some e → verdict t ≡ Unsound (Alike (smaller e) (larger e))
+          unfolding shape first given shapeNumber byEnds
+          named-0A e h = failing (Alike (smaller e) (larger e)) (rw (all, not-07, not-08, not-09, h)) refl
+
+          module _ (not-0A : usedAlike rs ≡ none) where
+            pub named-0B : (p : ℕ) → notReached rs ≡ some p → verdict t ≡ Unsound (Apart p)
+            unfolding shape first given shapeNumber byEnds
+            named-0B p h = failing (Apart p) (rw (all, not-07, not-08, not-09, not-0A, h)) refl
+
+            module _ (not-0B : notReached rs ≡ none) where
+              pub named-0C : (v : ℕ) → notLinked rs ≡ some v → verdict t ≡ Unsound (Unlinked v)
+              unfolding shape first given shapeNumber byEnds
+              named-0C v h = failing (Unlinked v) (rw (all, not-07, not-08, not-09, not-0A, not-0B, h)) refl
+
+              pub named-0D : notLinked rs ≡ none → leZ (sixVolume t) (pos 0) ≡ true → verdict t ≡ Inward
+              unfolding shape first given shapeNumber shapeFault byEnds
+              named-0D h v = then-shape ∙ (rw (v, all, not-07, not-08, not-09, not-0A, not-0B, h))

@@ -1,0 +1,4 @@
+pub mod Agree
+pub mod Check
+pub mod Steps
+pub mod Writes

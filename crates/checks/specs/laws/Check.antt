@@ -1,0 +1,214 @@
+-- End of load: what is kept is what the definitions give for the loaded tables.
+use Prim.Native.Nat.{ℕ, zero, suc, _+_, _-_, _≤_, _<_}
+use native.Mathlib.Omega.{arith}
+use mathlib.Core.Path.{_≡_, refl, sym, ap, ap₂, _∙_, subst}
+use mathlib.Core.Bool.{Bool, true, false, _&&_, true≢false, false≢true}
+use mathlib.Core.List.{List, [], _∷_, _++_, map}
+use mathlib.Core.Logic.{_⊎_}
+use borrow.Author.Tests.{ltb-true, ltb-false, leb-true, le-leb, not-false}
+use lib.Dec.{ltb, leb, eqb}
+use lib.ListN.{length, getD, take, drop, length-append, length-drop}
+use lib.IntN.{ℤ, pos}
+use Rattle.whole.specs.laws.Bools.{none-of}
+use Rattle.whole.specs.Lists.{given, first, tab, lastOf}
+use Rattle.whole.specs.laws.Stores.{cases, upto-done, length-upto}
+use Rattle.whole.specs.held.Stored.{zeroed}
+use Rattle.polygon.specs.Ring.{isShort}
+use Rattle.ring.specs.Entries.{isUnclosed, isRepeated}
+use Rattle.space.specs.held.Points.{pointsOf}
+use Rattle.shell.specs.declared.Shape.{Shape}
+use Rattle.shell.specs.declared.Shape.the-variants.{Few}
+use Rattle.shell.specs.held.Held.{ringAt, rings, Starts}
+use Rattle.edges.specs.held.Table.{stepWord, ringWords, wordsTo, tableOf, ascending}
+use Rattle.edges.specs.laws.Ascending.{length-ascending}
+use Rattle.shell.specs.held.Kept as S
+use Rattle.shell.specs.laws.EdgedLaws.{edged-built}
+use Rattle.shell.specs.laws.SoundLaws.{sound-ring}
+use Rattle.building.specs.declared.Scalars.{Scalars}
+use Rattle.building.specs.Tables.{loaded}
+use Rattle.building.specs.laws.Lists.{tab-ext, take-is-tab, map-tab}
+use Rattle.building.specs.held.Holds.{isBroken, Arrays, arrays, heldTables, heldBuilding, Loaded, Sizes, Found, Summed, Broken, Shown, Did}
+use Rattle.building.specs.laws.Findings.{Early, early-broken, broken-early}
+use Rattle.renew.specs.held.Renewed.{numberAt, partAt}
+use Rattle.checks.specs.held.Steps.{Checked}
+use Rattle.checks.specs.held.Early.{isEarly, NoneEarly, EarlyAt}
+use Rattle.checks.specs.laws.Steps.{zeroed-all}
+use Rattle.edges.specs.laws.Spans.{length-span}
+
+early-yes : (n : ℕ) → isEarly n ≡ true → Early n
+early-yes n e = go (leb 1 n) refl (leb n 3) refl e
+  where
+    go : (a : Bool) → leb 1 n ≡ a → (b : Bool) → leb n 3 ≡ b → (a && b) ≡ true → Early n
+    go true p true q e = record { least = leb-true 1 n p; most = leb-true n 3 q }
+    go true p false q e = absurd (false≢true e)
+    go false p b q e = absurd (false≢true e)
+
+early-no : (n : ℕ) → isEarly n ≡ false → Early n → ⊥
+early-no n e y = true≢false (sym (ap₂ (λ (a b : Bool). a && b) (le-leb 1 n (y .least)) (le-leb n 3 (y .most))) ∙ e)
+
+module _ (l : List ℕ) (n : ℕ) where
+  pub early-none : NoneEarly l n 0
+  early-none = record { passed = omega arith; before = λ p h. absurd (never p h) }
+    where
+      never : (p : ℕ) → p < 0 → ⊥
+      never p h = omega arith
+
+  pub early-more : (i : ℕ) → NoneEarly l n i → i < n → isEarly (getD l i 0) ≡ false → NoneEarly l n (i + 1)
+  early-more i s h f =
+      record {
+        passed = omega arith;
+        before = λ p g. cases (ltb p i)
+            (λ t. s .before p (ltb-true p i t))
+            (λ t. let q : p ≡ i = omega (arith, ltb-false p i t) in subst (λ (k : ℕ). isEarly (getD l k 0) ≡ false) (sym q) f);
+      }
+
+  pub early-found : (i : ℕ) → NoneEarly l n i → isEarly (getD l i 0) ≡ true → EarlyAt l n i
+  early-found i s e = record { none = s; here = λ g. e }
+
+  pub early-done : (i : ℕ) → NoneEarly l n i → n ≤ i → EarlyAt l n i
+  early-done i s h = record { none = s; here = λ g. absurd (clash i n g h) }
+    where
+      clash : (i n : ℕ) → i < n → n ≤ i → ⊥
+      clash i n g h = omega arith
+
+-- ---- a ring that fails none of them is one that the shell's table takes
+sound-of : (ring : List ℕ) → isBroken ring ≡ false → S.Sound ring
+unfolding isBroken isShort isUnclosed isRepeated
+sound-of [] e = absurd (true≢false (none-of (isShort []) (isUnclosed []) (isRepeated []) e .0))
+sound-of (a ∷ l) e =
+    let n = none-of (isShort (a ∷ l)) (isUnclosed (a ∷ l)) (isRepeated (a ∷ l)) e in
+    sound-ring a l (n .0) (not-false (eqb a (lastOf a l)) (n .1)) (n .2)
+
+-- ---- the table keeps its size
+
+words-few : (es st : List ℕ) (n m : ℕ) → Starts st n → m ≤ n → length (wordsTo es st m) ≤ getD st m 0
+unfolding wordsTo
+words-few es st n zero s h = omega arith
+words-few es st n (suc m) s h =
+    let ih : length (wordsTo es st m) ≤ getD st m 0 = words-few es st n m s (omega arith) in
+    let o : getD st m 0 ≤ getD st (m + 1) 0 = s .ordered m (m + 1) (omega arith) (omega arith) in
+    let l : length (ringWords es st m) ≡ getD st (m + 1) 0 - getD st m 0 - 1 = length-span (stepWord es m (getD st m 0) (getD st (m + 1) 0)) (getD st m 0) (getD st (m + 1) 0 - getD st m 0 - 1) in
+    let a : length (wordsTo es st m ++ ringWords es st m) ≡ length (wordsTo es st m) + length (ringWords es st m) = length-append (wordsTo es st m) (ringWords es st m) in
+    let e : getD st (suc m) 0 ≡ getD st (m + 1) 0 = ap (λ (k : ℕ). getD st k 0) (omega arith) in
+    omega arith
+
+pub table-length : (es st : List ℕ) (n : ℕ) (room table : List ℕ) → Starts st n → length room ≡ 1024 → table ≡ tableOf es st n room → length table ≡ 1024
+unfolding tableOf
+table-length es st n room table s h e =
+    let w : length (wordsTo es st n) ≤ getD st n 0 = words-few es st n n s (omega arith) in
+    let l : length (ascending (wordsTo es st n)) ≡ length (wordsTo es st n) = length-ascending (wordsTo es st n) in
+    let d : length (drop (length (wordsTo es st n)) room) ≡ length room - length (wordsTo es st n) = length-drop (length (wordsTo es st n)) room in
+    ap length e ∙ length-append (ascending (wordsTo es st n)) (drop (length (wordsTo es st n)) room) ∙ omega (arith, s .inside)
+
+-- ---- all of it
+module _ {points : List ℤ} {entries starts : List ℕ} {s : Scalars} (ld : Loaded points entries starts s) {findings findings' : List ℕ} {parts parts' : List ℤ} (size-f : length findings ≡ 256) (size-p : length parts ≡ 256)
+    (ch : Checked (s .tolerance) points entries starts (s .polygons) findings parts findings' parts') where
+  pub checked-found : Found points entries starts findings' s
+  checked-found =
+      record {
+        size = ap length (ch .found) ∙ length-upto (λ p _. numberAt (s .tolerance) points entries starts p) 0 findings (s .polygons) ∙ size-f;
+        each = λ p h. ap (λ (l : List ℕ). getD l p 0) (ch .found) ∙ upto-done (λ p _. numberAt (s .tolerance) points entries starts p) 0 findings (s .polygons) p h (omega (arith, ld .begins .few));
+      }
+
+  pub checked-summed : Summed points entries starts parts' s
+  checked-summed =
+      record {
+        size = ap length (ch .summed) ∙ length-upto (λ p _. partAt points entries starts p) (pos 0) parts (s .polygons) ∙ size-p;
+        each = λ p h. ap (λ (l : List ℤ). getD l p (pos 0)) (ch .summed) ∙ upto-done (λ p _. partAt points entries starts p) (pos 0) parts (s .polygons) p h (omega (arith, ld .begins .few));
+      }
+
+  -- some ring is broken
+  pub early-is-broken : (r : ℕ) → EarlyAt findings' (s .polygons) r → r < s .polygons → Broken entries starts (s .polygons)
+  early-is-broken r e h =
+      record {
+        polygon = r;
+        below = h;
+        broken = early-broken (s .tolerance) (pointsOf points) (ringAt entries starts r) (subst Early (checked-found .each r h) (early-yes (getD findings' r 0) (e .here h)));
+      }
+
+  -- none is: the shell's table takes them all
+  pub none-broken : (r : ℕ) → EarlyAt findings' (s .polygons) r → s .polygons ≤ r → S.Loaded entries starts (s .polygons)
+  none-broken r e h =
+      record {
+        points = s .points;
+        held = ld .entered;
+        begin = ld .begins;
+        sound = λ p g. sound-of (ringAt entries starts p) (whole p g (isBroken (ringAt entries starts p)) refl);
+      }
+    where
+      whole : (p : ℕ) → p < s .polygons → (b : Bool) → isBroken (ringAt entries starts p) ≡ b → b ≡ false
+      whole p g false q = refl
+      whole p g true q = absurd (early-no (getD findings' p 0) (e .none .before p (omega arith)) (subst Early (sym (checked-found .each p g)) (broken-early (s .tolerance) (pointsOf points) (ringAt entries starts p) q)))
+
+-- all stamps are 0
+stamps-none : (entries starts : List ℕ) (n : ℕ) (stamps : List ℕ) → length stamps ≡ 256 → n ≤ 256 → take n (zeroed stamps 256) ≡ map (λ (r : List ℕ). 0) (rings entries starts n)
+unfolding rings
+stamps-none entries starts n stamps h few =
+    take-is-tab (zeroed stamps 256) n 0 (omega (arith, length-upto (λ p old. 0) 0 stamps 256))
+    ∙ tab-ext (λ p. getD (zeroed stamps 256) p 0) (λ p. 0) n (λ p g. zeroed-all stamps h p)
+    ∙ sym (map-tab (λ (r : List ℕ). 0) (ringAt entries starts) n)
+
+-- an empty table belongs to no rings
+pub known-none : {points : List ℤ} {entries starts : List ℕ} {s : Scalars} → Loaded points entries starts s → (table turned : List ℕ) → ((p : ℕ) → getD turned p 0 ≡ 0) → S.Known table 0 turned (Few 0)
+unfolding S.turnedRings S.fixedShape rings tab wordsTo ascending first given
+known-none {entries = entries} {starts = starts} {s = s} ld table turned z =
+    record {
+      present = [];
+      edged = record {
+        entries = entries;
+        starts = starts;
+        polygons = 0;
+        loaded = record {
+          points = s .points;
+          held = record { size = ld .entered .size; few = ld .entered .few; below = λ i h. absurd (omega (arith, ld .first)) };
+          begin = record { size = ld .begins .size; few = omega arith; ordered = λ p q h g. let e : p ≡ q = omega arith in rw e (omega arith); inside = omega (arith, ld .first) };
+          sound = λ p h. absurd (omega arith);
+        };
+        flags = λ p. omega (arith, z p);
+        present = refl;
+        words = refl;
+        room = omega arith;
+        fixed-is = refl;
+      };
+    }
+
+module _ (a : Arrays) (s : Scalars) (ld : Loaded (a .points) (a .entries) (a .starts) s) (sz : Sizes a) where
+  pub did-loaded : {findings' : List ℕ} {parts' : List ℤ} {stamps' turned' table' : List ℕ}
+      → Checked (s .tolerance) (a .points) (a .entries) (a .starts) (s .polygons) (a .findings) (a .parts) findings' parts'
+      → stamps' ≡ zeroed (a .stamps) 256
+      → turned' ≡ zeroed (a .turned) 256
+      → length table' ≡ 1024
+      → (edges : ℕ) (fixed shape : Shape)
+      → Broken (a .entries) (a .starts) (s .polygons) ⊎ S.Edged (rings (a .entries) (a .starts) (s .polygons)) table' edges turned' fixed
+      → Shown table' edges turned' fixed shape
+      → {r : Scalars} → r ≡ record { tolerance = s .tolerance; points = s .points; polygons = s .polygons; last = 0; edges = edges; fixed = fixed; shape = shape }
+      → Did (loaded (heldTables (a .points) (a .entries) (a .starts) s)) (arrays (a .points) (a .entries) (a .starts) stamps' findings' parts' table' turned') r
+  unfolding heldBuilding heldTables loaded
+  did-loaded {table' = table'} ch e f w edges fixed shape sh now g =
+      let fo = checked-found ld (sz .findings) (sz .parts) ch in
+      let su = checked-summed ld (sz .findings) (sz .parts) ch in
+      let z : (p : ℕ) → getD (zeroed (a .turned) 256) p 0 ≡ 0 = zeroed-all (a .turned) (sz .turned) in
+      let sh' : Broken (a .entries) (a .starts) (s .polygons) ⊎ S.Edged (rings (a .entries) (a .starts) (s .polygons)) table' edges (zeroed (a .turned) 256) fixed = rw f at sh in
+      let now' : Shown table' edges (zeroed (a .turned) 256) fixed shape = rw f at now in
+      rw (e, f, g)
+      (record {
+        held = record {
+          loaded = record { coords = ld .coords; first = ld .first; begins = ld .begins; entered = ld .entered; tolerant = ld .tolerant; short = ld .short };
+          stamped = length-upto (λ p old. 0) 0 (a .stamps) 256 ∙ sz .stamps;
+          kept = record {
+            found = record { size = fo .size; each = fo .each };
+            summed = record { size = su .size; each = su .each };
+            table-size = w;
+            turned-size = length-upto (λ p old. 0) 0 (a .turned) 256 ∙ sz .turned;
+            flags = λ p. omega (arith, z p);
+            shaped = sh';
+            shown = now';
+          };
+        };
+        is = rw (stamps-none (a .entries) (a .starts) (s .polygons) (a .stamps) (sz .stamps) (ld .begins .few));
+      })
+
+  pub built-shaped : (room table' turned' : List ℕ) (count : ℕ) (fixed : Shape) → S.Loaded (a .entries) (a .starts) (s .polygons) → S.Built (a .entries) (a .starts) (s .polygons) room table' count fixed → turned' ≡ zeroed (a .turned) 256
+      → S.Edged (rings (a .entries) (a .starts) (s .polygons)) table' count turned' fixed
+  built-shaped room table' turned' count fixed l b e =
+      edged-built (a .entries) (a .starts) (s .polygons) room table' count turned' fixed l b (λ p. ap (λ (k : List ℕ). getD k p 0) e ∙ zeroed-all (a .turned) (sz .turned) p)

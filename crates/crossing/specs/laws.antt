@@ -1,0 +1,3 @@
+pub mod Agree
+pub mod CrossedTurn
+pub mod Pairs

@@ -1,0 +1,3 @@
+-- Lemmas on plain values that several proofs of this crate use.
+pub mod Now
+pub mod Ways

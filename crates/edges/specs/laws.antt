@@ -1,0 +1,6 @@
+-- What is proved of the definitions.
+pub mod Ascending
+pub mod EdgeLaws
+pub mod Tallies
+pub mod Spans
+pub mod Agree

@@ -1,0 +1,2 @@
+mod Scaled
+mod Ways

@@ -1,0 +1,4 @@
+pub mod Agree
+pub mod Distance
+pub mod Foot
+pub mod Quad

@@ -1,0 +1,5 @@
+pub mod Agree
+pub mod Canonical
+pub mod Decoded
+pub mod RoundTrip
+pub mod Written

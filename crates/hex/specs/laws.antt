@@ -1,0 +1,4 @@
+pub mod Digits
+pub mod Signed
+pub mod Agree
+pub mod Back

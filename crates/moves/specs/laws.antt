@@ -1,0 +1,5 @@
+pub mod Agree
+pub mod Moved
+pub mod Rings
+pub mod Spans
+pub mod Steps

@@ -1,0 +1,5 @@
+pub mod Agree
+pub mod Quad
+pub mod Sizes
+pub mod Sums
+pub mod Triangle

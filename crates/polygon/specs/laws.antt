@@ -1,0 +1,9 @@
+pub mod Agree
+pub mod Checks
+pub mod Examples
+pub mod Fan
+pub mod FromNormal
+pub mod Kept
+pub mod Taken
+pub mod Triangle
+pub mod TurnFinding

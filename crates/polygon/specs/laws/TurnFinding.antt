@@ -1,0 +1,227 @@
+-- Turning never changes a finding.
+use Prim.Native.Nat.{ℕ, _<_}
+use mathlib.Core.Path.{_≡_, refl, sym, ap, ap₂, _∙_}
+use mathlib.Core.Bool.{Bool, true, false, not, cond}
+use mathlib.Core.List.{List, [], _∷_, map, foldr, reverse, reverseAux}
+use borrow.Author.Tests.{not-false, eqb-true, eq-eqb}
+use lib.Dec.{eqb, ltb}
+use lib.ListN.{length, getD, length-reverse, length-map}
+use lib.IntN.{ℤ, pos, negℤ, _+ℤ_, _-ℤ_, _*ℤ_}
+use lib.Signed.{ltZ}
+use Rattle.whole.specs.laws.Size.{abs-neg}
+use Rattle.whole.specs.laws.Solve.{_⊕_, _⊖_, _⊗_, ⊝_, ring, _≔_}
+use Rattle.whole.specs.Lists.{given, first, any, anyTwo, steps, lastOf, numbered, sumOf}
+use Rattle.whole.specs.laws.Reverse.{any-reverse, anyTwo-reverse, anyTwo-map, anyTwo-same, counted, numbered-reverse, numbered-below, back, steps-reverse, anyTwo-turned, map-reverseAux}
+use Rattle.space.specs.Space.{Point, origin, plus, relativeTo, cross, dot, places}
+use Rattle.space.specs.declared.Axis.{Axis}
+use Rattle.polygon.specs.declared.Finding.{Finding}
+use Rattle.polygon.specs.declared.Finding.the-variants.{Sound, Short, Unclosed, Repeated, NoNormal, Crossed, Uneven}
+use Rattle.plane.specs.Plane.{largestAxis, Spot, dropAxis, Segment}
+use Rattle.polygon.specs.Ring.{isShort, edgesIn, finding}
+use Rattle.ring.specs.Entries.{isUnclosed, isRepeated}
+use Rattle.normal.specs.Normal.{relative, normal, isZero}
+use Rattle.crossing.specs.Crossed.{forbidden, isCrossed}
+use Rattle.even.specs.Even.{square, squares, exceeds, isUneven}
+use Rattle.space.specs.laws.Laws.{eqb-sym}
+use Rattle.volume.specs.laws.Turn.{sum-reverse, firstOf, first-reverseAux, last-map}
+use Rattle.plane.specs.laws.PlaneTurn.{zero-neg}
+use Rattle.crossing.specs.laws.CrossedTurn.{forbidden-back}
+
+-- ---- the opposite way
+
+opposite : Point → Point
+opposite n = record { x = negℤ (n .x); y = negℤ (n .y); z = negℤ (n .z) }
+
+isZero-opposite : (n : Point) → isZero (opposite n) ≡ isZero n
+unfolding isZero opposite
+isZero-opposite n = rw (zero-neg (n .x), zero-neg (n .y), zero-neg (n .z))
+
+largestAxis-opposite : (n : Point) → largestAxis (opposite n) ≡ largestAxis n
+unfolding largestAxis opposite
+largestAxis-opposite n = rw (abs-neg (n .x), abs-neg (n .y), abs-neg (n .z))
+
+square-opposite : (z : ℤ) → square (negℤ z) ≡ square z
+unfolding square
+square-opposite = ring 1 (λ z. ⊝ z ⊗ ⊝ z ≔ z ⊗ z) tt
+
+squares-opposite : (n : Point) → squares (opposite n) ≡ squares n
+unfolding squares opposite
+squares-opposite n = rw (square-opposite (n .x), square-opposite (n .y), square-opposite (n .z))
+
+dot-opposite : (n p : Point) → square (dot (opposite n) p) ≡ square (dot n p)
+unfolding dot opposite
+dot-opposite n p = ap square (go (n .x) (n .y) (n .z) (p .x) (p .y) (p .z)) ∙ square-opposite (dot n p)
+  where
+    go : (a b c d e f : ℤ) → negℤ a *ℤ d +ℤ negℤ b *ℤ e +ℤ negℤ c *ℤ f ≡ negℤ (a *ℤ d +ℤ b *ℤ e +ℤ c *ℤ f)
+    go = ring 6 (λ a b c d e f. ⊝ a ⊗ d ⊕ ⊝ b ⊗ e ⊕ ⊝ c ⊗ f ≔ ⊝ (a ⊗ d ⊕ b ⊗ e ⊕ c ⊗ f)) tt
+
+-- ---- sums of cross products, one component at a time
+
+crosses : List (Point × Point) → Point
+crosses ss = foldr (λ s n. plus (cross (s .0) (s .1)) n) origin ss
+
+module _ (π : Point → ℤ) (none : π origin ≡ pos 0) (add : (p q : Point) → π (plus p q) ≡ π p +ℤ π q) where
+  component : (ss : List (Point × Point)) → π (crosses ss) ≡ sumOf (λ s. π (cross (s .0) (s .1))) ss
+  unfolding crosses sumOf
+  component [] = none
+  component (s ∷ ss) = add (cross (s .0) (s .1)) (crosses ss) ∙ ap (λ (z : ℤ). π (cross (s .0) (s .1)) +ℤ z) (component ss)
+
+  component-reverse : ((p q : Point) → π (cross p q) ≡ negℤ (π (cross q p))) → (ps : List Point) → π (crosses (steps (reverse ps))) ≡ negℤ (π (crosses (steps ps)))
+  component-reverse odd ps =
+      component (steps (reverse ps)) ∙ sum-reverse (λ s. π (cross (s .0) (s .1))) odd ps ∙ ap negℤ (sym (component (steps ps)))
+
+minor-odd : (a b c d : ℤ) → a *ℤ d -ℤ b *ℤ c ≡ negℤ (c *ℤ b -ℤ d *ℤ a)
+minor-odd = ring 4 (λ a b c d. a ⊗ d ⊖ b ⊗ c ≔ ⊝ (c ⊗ b ⊖ d ⊗ a)) tt
+
+crosses-reverse : (ps : List Point) → crosses (steps (reverse ps)) ≡ opposite (crosses (steps ps))
+unfolding origin plus cross opposite
+crosses-reverse ps =
+    let a : crosses (steps (reverse ps)) .x ≡ negℤ (crosses (steps ps) .x) = component-reverse (λ p. p .x) refl (λ p q. refl) (λ p q. minor-odd (p .y) (p .z) (q .y) (q .z)) ps in
+    let b : crosses (steps (reverse ps)) .y ≡ negℤ (crosses (steps ps) .y) = component-reverse (λ p. p .y) refl (λ p q. refl) (λ p q. minor-odd (p .z) (p .x) (q .z) (q .x)) ps in
+    let c : crosses (steps (reverse ps)) .z ≡ negℤ (crosses (steps ps) .z) = component-reverse (λ p. p .z) refl (λ p q. refl) (λ p q. minor-odd (p .x) (p .y) (q .x) (q .y)) ps in
+    λ i. record { x = a i; y = b i; z = c i }
+
+-- ---- a closed ring of points
+
+map-reverse : {A B : Type 0} (g : A → B) (l : List A) → map g (reverse l) ≡ reverse (map g l)
+map-reverse g l = map-reverseAux g l []
+
+relative-first : (ps : List Point) → relative ps ≡ map (relativeTo (firstOf origin ps)) ps
+unfolding relative firstOf
+relative-first [] = refl
+relative-first (a ∷ l) = refl
+
+module _ (a : Point) (l : List Point) (closed : lastOf a l ≡ a) where
+  relative-turned : relative (reverse (a ∷ l)) ≡ reverse (relative (a ∷ l))
+  unfolding relative
+  relative-turned =
+      relative-first (reverse (a ∷ l))
+      ∙ ap (λ (c : Point). map (relativeTo c) (reverse (a ∷ l))) (first-reverseAux origin l a [] ∙ closed)
+      ∙ map-reverse (relativeTo a) (a ∷ l)
+
+  normal-turned : normal (reverse (a ∷ l)) ≡ opposite (normal (a ∷ l))
+  unfolding normal crosses
+  normal-turned = ap (λ (ps : List Point). crosses (steps ps)) relative-turned ∙ crosses-reverse (relative (a ∷ l))
+
+  uneven-turned : (tolerance : ℕ) (n : Point) → isUneven tolerance (opposite n) (reverse (a ∷ l)) ≡ isUneven tolerance n (a ∷ l)
+  unfolding isUneven exceeds
+  uneven-turned tolerance n =
+      ap (any (λ p. exceeds tolerance (opposite n) (dot (opposite n) p))) relative-turned
+      ∙ any-reverse (λ p. exceeds tolerance (opposite n) (dot (opposite n) p)) (relative (a ∷ l))
+      ∙ ap (λ (t : Point → Bool). any t (relative (a ∷ l))) (λ i p. ltZ (square (pos tolerance) *ℤ squares-opposite n i) (dot-opposite n p i))
+
+-- ---- edges
+
+crossed-back : (es : List Segment) → isCrossed (reverse (map back es)) ≡ isCrossed es
+unfolding isCrossed
+crossed-back es =
+    let m : length (reverse (map back es)) ≡ length es = length-reverse (map back es) ∙ length-map es back in
+    ap₂ (λ (n : ℕ) (l : List (ℕ × Segment)). anyTwo (forbidden n) l) m (numbered-reverse back es)
+    ∙ anyTwo-reverse (forbidden (length es)) (map (counted back (length es)) (numbered es))
+    ∙ anyTwo-map (λ x y. forbidden (length es) y x) (counted back (length es)) (numbered es)
+    ∙ anyTwo-same (λ p. p .0 < length es) (λ x y. forbidden (length es) (counted back (length es) y) (counted back (length es) x)) (forbidden (length es)) (λ x y hx hy. forbidden-back (length es) x y hx hy) (numbered-below es)
+
+edges-turned : (axis : Axis) (ps : List Point) → isCrossed (edgesIn axis (reverse ps)) ≡ isCrossed (edgesIn axis ps)
+unfolding edgesIn
+edges-turned axis ps =
+    ap (λ (qs : List Spot). isCrossed (steps qs)) (map-reverse (dropAxis axis) ps)
+    ∙ ap isCrossed (steps-reverse (map (dropAxis axis) ps))
+    ∙ crossed-back (steps (map (dropAxis axis) ps))
+
+-- ---- numbers
+
+last-reverseAux : {A : Type 0} (d : A) (l : List A) (y : A) (r : List A) → lastOf d (reverseAux l (y ∷ r)) ≡ lastOf y r
+unfolding lastOf
+last-reverseAux d [] y r = refl
+last-reverseAux d (x ∷ l) y r = last-reverseAux d l x (y ∷ r)
+
+unclosed-ends : (d : ℕ) (r : List ℕ) → isUnclosed r ≡ not (eqb (firstOf d r) (lastOf d r))
+unfolding isUnclosed firstOf lastOf
+unclosed-ends d [] = rw (eq-eqb d d refl)
+unclosed-ends d (a ∷ l) = refl
+
+unclosed-turned : (r : List ℕ) → isUnclosed (reverse r) ≡ isUnclosed r
+unfolding isUnclosed lastOf
+unclosed-turned [] = refl
+unclosed-turned (a ∷ l) =
+    unclosed-ends 0 (reverse (a ∷ l))
+    ∙ ap₂ (λ (p q : ℕ). not (eqb p q)) (first-reverseAux 0 l a []) (last-reverseAux 0 l a [])
+    ∙ ap not (eqb-sym (lastOf a l) a)
+
+-- ---- the finding, as a function of the six tests
+
+rows : Bool → Bool → Bool → Bool → Bool → Bool → Finding
+rows s u r n c e = first Sound (given s Short ∷ given u Unclosed ∷ given r Repeated ∷ given n NoNormal ∷ given c Crossed ∷ given e Uneven ∷ [])
+
+finding-rows : (tolerance : ℕ) (points : List Point) (r : List ℕ) → finding tolerance points r
+    ≡ rows (isShort r) (isUnclosed r) (isRepeated r) (isZero (normal (places points r))) (isCrossed (edgesIn (largestAxis (normal (places points r))) (places points r))) (isUneven tolerance (normal (places points r)) (places points r))
+unfolding finding rows
+finding-rows tolerance points r = refl
+
+-- what comes after 02 does not matter to an Unclosed ring
+rows-unclosed : (s u r n c e : Bool) → u ≡ true → rows s u r n c e ≡ cond s Short Unclosed
+unfolding rows first given
+rows-unclosed true u r n c e q = refl
+rows-unclosed false u r n c e q = rw q
+
+finding-unclosed : (tolerance : ℕ) (points : List Point) (r : List ℕ) → isUnclosed r ≡ true → finding tolerance points r ≡ cond (isShort r) Short Unclosed
+finding-unclosed tolerance points r q = finding-rows tolerance points r ∙ rows-unclosed (isShort r) (isUnclosed r) _ _ _ _ q
+
+short-turned : (r : List ℕ) → isShort (reverse r) ≡ isShort r
+unfolding isShort
+short-turned r = ap (λ (n : ℕ). ltb n 4) (length-reverse r)
+
+-- a ring whose last entry is its first
+module _ (tolerance : ℕ) (points : List Point) (a : ℕ) (l : List ℕ) (closed : lastOf a l ≡ a) where
+  here : List Point
+  here = places points (a ∷ l)
+
+  turned-places : places points (reverse (a ∷ l)) ≡ reverse here
+  unfolding here places
+  turned-places = map-reverse (λ n. getD points n origin) (a ∷ l)
+
+  closed-places : lastOf (getD points a origin) (map (λ n. getD points n origin) l) ≡ getD points a origin
+  closed-places = last-map (λ n. getD points n origin) a l ∙ ap (λ (n : ℕ). getD points n origin) closed
+
+  turned-normal : normal (places points (reverse (a ∷ l))) ≡ opposite (normal here)
+  unfolding here places
+  turned-normal = ap normal turned-places ∙ normal-turned (getD points a origin) (map (λ n. getD points n origin) l) closed-places
+
+  turned-zero : isZero (normal (places points (reverse (a ∷ l)))) ≡ isZero (normal here)
+  turned-zero = ap isZero turned-normal ∙ isZero-opposite (normal here)
+
+  turned-crossed : isCrossed (edgesIn (largestAxis (normal (places points (reverse (a ∷ l))))) (places points (reverse (a ∷ l)))) ≡ isCrossed (edgesIn (largestAxis (normal here)) here)
+  turned-crossed =
+      ap₂ (λ (n : Point) (ps : List Point). isCrossed (edgesIn (largestAxis n) ps)) turned-normal turned-places
+      ∙ ap (λ (axis : Axis). isCrossed (edgesIn axis (reverse here))) (largestAxis-opposite (normal here))
+      ∙ edges-turned (largestAxis (normal here)) here
+
+  turned-uneven : isUneven tolerance (normal (places points (reverse (a ∷ l)))) (places points (reverse (a ∷ l))) ≡ isUneven tolerance (normal here) here
+  unfolding here places
+  turned-uneven =
+      ap₂ (λ (n : Point) (ps : List Point). isUneven tolerance n ps) turned-normal turned-places
+      ∙ uneven-turned (getD points a origin) (map (λ n. getD points n origin) l) closed-places tolerance (normal here)
+
+  turned-repeated : isRepeated (reverse (a ∷ l)) ≡ isRepeated (a ∷ l)
+  unfolding isRepeated
+  turned-repeated = anyTwo-turned (λ x y. eqb x y) (λ x y. eqb-sym x y) a l closed
+
+  closed-turned : finding tolerance points (reverse (a ∷ l)) ≡ finding tolerance points (a ∷ l)
+  unfolding here
+  closed-turned =
+      finding-rows tolerance points (reverse (a ∷ l))
+      ∙ (λ i. rows (short-turned (a ∷ l) i) (unclosed-turned (a ∷ l) i) (turned-repeated i) (turned-zero i) (turned-crossed i) (turned-uneven i))
+      ∙ sym (finding-rows tolerance points (a ∷ l))
+
+-- Turning never changes a finding.
+pub finding-turned : (tolerance : ℕ) (points : List Point) (r : List ℕ) → finding tolerance points (reverse r) ≡ finding tolerance points r
+unfolding isUnclosed
+finding-turned tolerance points [] = refl
+finding-turned tolerance points (a ∷ l) = go (isUnclosed (a ∷ l)) refl
+  where
+    go : (b : Bool) → isUnclosed (a ∷ l) ≡ b → finding tolerance points (reverse (a ∷ l)) ≡ finding tolerance points (a ∷ l)
+    go true e =
+        finding-unclosed tolerance points (reverse (a ∷ l)) (unclosed-turned (a ∷ l) ∙ e)
+        ∙ ap (λ (s : Bool). cond s Short Unclosed) (short-turned (a ∷ l))
+        ∙ sym (finding-unclosed tolerance points (a ∷ l) e)
+    go false e = closed-turned tolerance points a l (sym (eqb-true a (lastOf a l) (not-false (eqb a (lastOf a l)) e)))

@@ -1,0 +1,89 @@
+-- `renew::refresh` meets its contract: what the polygon's code gives for the ring is stored.
+use Prim.Native.Nat.{ℕ}
+use mathlib.Core.Path.{ap, _∙_}
+use lib.ListN.{set}
+use lib.IntN.{ℤ}
+use mir.Syntax.{w64}
+use Rattle.whole.specs.laws.Size.{call-is}
+use Rattle.polygon.specs.Ring.{findingNumber}
+use borrow.Author.Needs.{needs}
+use Rattle.renew.proofs.refresh.Statement.{statement}
+use Rattle.renew.proofs.refresh.Tie as tie
+
+mul-from : tie.Need-mul-from
+mul-from c = search needs
+
+element-copy-out-from : tie.Need-element-copy-out-from
+element-copy-out-from c = search needs
+
+cast-from : tie.Need-cast-from
+cast-from c = search needs
+
+add-to : tie.Need-add-to
+add-to c = search needs
+
+mul-to : tie.Need-mul-to
+mul-to c = search needs
+
+element-copy-out-to : tie.Need-element-copy-out-to
+element-copy-out-to c = search needs
+
+cast-to : tie.Need-cast-to
+cast-to c = search needs
+
+mul-ring : tie.Need-mul-ring
+mul-ring c = search needs
+
+sub-ring : tie.Need-sub-ring
+sub-ring c = search needs
+
+part-ring-start : tie.Need-part-ring-start
+part-ring-start c = search needs
+
+part-ring-end : tie.Need-part-ring-end
+part-ring-end c = search needs
+
+look-at-requires : tie.Need-look-at-requires
+look-at-requires c κs = search needs
+
+finding-number-requires : tie.Need-finding-number-requires
+finding-number-requires c κs = search needs
+
+element-write-findings : tie.Need-element-write-findings
+element-write-findings c = search needs
+
+mul-part : tie.Need-mul-part
+mul-part c = search needs
+
+element-set-from-part : tie.Need-element-set-from-part
+element-set-from-part c = search needs
+
+returns : tie.Need-returns
+returns c =
+    let a = c .before .before .before .before .before .before .before .args in
+    record {
+      found = ap (λ (v : ℕ). set (a .findings .now) (a .p) v) (c .finding-number .ensures ∙ ap findingNumber (c .before .before .look-at .ensures .0));
+      summed = ap (λ (z : ℤ). set (a .parts .now) (a .p) z) (call-is w64 (c .before .struct-told .given .1 .0 .1) (c .before .before .look-at .ensures .1));
+    }
+
+pub refresh-spec : {M : Type 1} → statement M
+refresh-spec =
+    tie.close
+    (tie.spec
+    mul-from
+    element-copy-out-from
+    cast-from
+    add-to
+    mul-to
+    element-copy-out-to
+    cast-to
+    mul-ring
+    sub-ring
+    part-ring-start
+    part-ring-end
+    look-at-requires
+    finding-number-requires
+    element-write-findings
+    mul-part
+    element-set-from-part
+    returns)

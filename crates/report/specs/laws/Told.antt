@@ -1,0 +1,272 @@
+-- What is kept tells the report, and the answer about one polygon.
+use Prim.Native.Nat.{ℕ, zero, suc, _+_, _*_, _-_, _≤_, _<_}
+use native.Mathlib.Omega.{arith}
+use mathlib.Core.Path.{_≡_, refl, sym, ap, ap₂, _∙_, subst}
+use mathlib.Core.Bool.{Bool, true, false}
+use mathlib.Core.List.{List, [], _∷_, map}
+use mathlib.Core.Logic.{⊎-elim}
+use mathlib.Core.Option.{Option, none, some}
+use borrow.Author.Tests.{le-ltb, ltb-false}
+use lib.Dec.{ltb}
+use lib.ListN.{length, getD, take, length-map}
+use lib.Seq.{getD-take, length-take-le}
+use lib.IntN.{ℤ, pos, _+ℤ_}
+use lib.Signed.{leZ}
+use Rattle.whole.specs.Lists.{given, first, firstGiven, tally, numberedFrom, numbered, sumOf, tab}
+use Rattle.whole.specs.held.Small.{Small}
+use Rattle.whole.specs.laws.Size.{small-zero, small-add, small-more}
+use Rattle.polygon.specs.declared.Finding.{Finding}
+use Rattle.polygon.specs.declared.Finding.the-variants.{Sound}
+use Rattle.polygon.specs.Ring.{finding, findingNumber}
+use Rattle.volume.specs.Part.{part}
+use Rattle.space.specs.held.Points.{pointsOf}
+use Rattle.polygon.specs.laws.Taken.{finding-take, part-take}
+use Rattle.volume.specs.laws.PartSizes.{part-small}
+use Rattle.shell.specs.declared.Shape.{Shape}
+use Rattle.shell.specs.held.Held.{ringAt, rings}
+use Rattle.shell.specs.Shell.{shape, shapeNumber}
+use Rattle.shell.specs.held.Kept.{Edged}
+use Rattle.building.specs.declared.Scalars.{Scalars}
+use Rattle.building.specs.declared.Verdict.{Verdict}
+use Rattle.building.specs.declared.Verdict.the-variants.{Accepted, Faulty, Unsound, Inward}
+use Rattle.building.specs.Tables.{Tables}
+use Rattle.building.specs.Report.{findings, isFault, lowestFault, sixVolume, shapeFault, verdict, report}
+use Rattle.edges.specs.laws.Tallies.{tally-map}
+use Rattle.whole.specs.laws.Places.{tab-length, tab-at}
+use Rattle.building.specs.laws.Lists.{tab-ext, take-is-tab, map-tab}
+use Rattle.building.specs.laws.Findings.{number-same, number-few, Early, broken-early}
+use Rattle.building.specs.held.Holds.{Arrays, heldTables, heldBuilding, Loaded, Found, Summed, Broken, Kept}
+use Rattle.building.specs.held.Rings.{Ring}
+use Rattle.building.specs.laws.Rings.{ring-of, ring-below, ring-length}
+use Rattle.totals.specs.held.Scans.{lowest, sumUpTo, Summable}
+use Rattle.totals.specs.laws.Scans.{lowest-is-length, lowest-inside, above, sum-more}
+
+-- ---- the lowest finding, as numbers
+lowest-some : (k : ℕ) (fs : List Finding) → lowest (map findingNumber fs) < length fs
+    → firstGiven (map (λ (f : ℕ × Finding). given (isFault (f .1)) (Faulty (f .0) (f .1))) (numberedFrom k fs)) ≡ some (Faulty (k + lowest (map findingNumber fs)) (getD fs (lowest (map findingNumber fs)) Sound))
+unfolding lowest firstGiven given numberedFrom isFault
+lowest-some k [] h = absurd (omega arith)
+lowest-some k (f ∷ fs) h = go (ltb 0 (findingNumber f)) refl h (lowest-some (suc k) fs)
+  where
+    go : (b : Bool) → ltb 0 (findingNumber f) ≡ b → lowest (map findingNumber (f ∷ fs)) < length (f ∷ fs)
+        → (lowest (map findingNumber fs) < length fs → firstGiven (map (λ (f : ℕ × Finding). given (isFault (f .1)) (Faulty (f .0) (f .1))) (numberedFrom (suc k) fs)) ≡ some (Faulty (suc k + lowest (map findingNumber fs)) (getD fs (lowest (map findingNumber fs)) Sound)))
+        → firstGiven (map (λ (f : ℕ × Finding). given (isFault (f .1)) (Faulty (f .0) (f .1))) (numberedFrom k (f ∷ fs))) ≡ some (Faulty (k + lowest (map findingNumber (f ∷ fs))) (getD (f ∷ fs) (lowest (map findingNumber (f ∷ fs))) Sound))
+    go true e h ih =
+        let l : lowest (map findingNumber (f ∷ fs)) ≡ 0 = ap (λ (b : Bool). elim b [ true ↦ 0 | false ↦ suc (lowest (map findingNumber fs)) ]) e in
+        let z : k + 0 ≡ k = omega arith in
+        rw (l, e, z)
+    go false e h ih =
+        let l : lowest (map findingNumber (f ∷ fs)) ≡ suc (lowest (map findingNumber fs)) = ap (λ (b : Bool). elim b [ true ↦ 0 | false ↦ suc (lowest (map findingNumber fs)) ]) e in
+        let z : suc k + lowest (map findingNumber fs) ≡ k + suc (lowest (map findingNumber fs)) = omega arith in
+        let r = ih (omega arith) in
+        rw (l, e) (rw z at r)
+
+lowest-none : (k : ℕ) (fs : List Finding) → length fs ≤ lowest (map findingNumber fs) → firstGiven (map (λ (f : ℕ × Finding). given (isFault (f .1)) (Faulty (f .0) (f .1))) (numberedFrom k fs)) ≡ none
+unfolding lowest firstGiven given numberedFrom isFault
+lowest-none k [] h = refl
+lowest-none k (f ∷ fs) h = go (ltb 0 (findingNumber f)) refl h (lowest-none (suc k) fs)
+  where
+    go : (b : Bool) → ltb 0 (findingNumber f) ≡ b → length (f ∷ fs) ≤ lowest (map findingNumber (f ∷ fs))
+        → (length fs ≤ lowest (map findingNumber fs) → firstGiven (map (λ (f : ℕ × Finding). given (isFault (f .1)) (Faulty (f .0) (f .1))) (numberedFrom (suc k) fs)) ≡ none)
+        → firstGiven (map (λ (f : ℕ × Finding). given (isFault (f .1)) (Faulty (f .0) (f .1))) (numberedFrom k (f ∷ fs))) ≡ none
+    go true e h ih =
+        let l : lowest (map findingNumber (f ∷ fs)) ≡ 0 = ap (λ (b : Bool). elim b [ true ↦ 0 | false ↦ suc (lowest (map findingNumber fs)) ]) e in
+        absurd (omega arith)
+    go false e h ih =
+        let l : lowest (map findingNumber (f ∷ fs)) ≡ suc (lowest (map findingNumber fs)) = ap (λ (b : Bool). elim b [ true ↦ 0 | false ↦ suc (lowest (map findingNumber fs)) ]) e in
+        let r = ih (omega arith) in
+        rw e r
+
+-- what stands before the lowest is 0
+pub lowest-before : (l : List ℕ) (p : ℕ) → p < lowest l → getD l p 0 ≡ 0
+unfolding lowest
+lowest-before [] p h = absurd (omega arith)
+lowest-before (x ∷ l) p h = go (ltb 0 x) refl p h (lowest-before l)
+  where
+    go : (b : Bool) → ltb 0 x ≡ b → (p : ℕ) → p < lowest (x ∷ l) → ((q : ℕ) → q < lowest l → getD l q 0 ≡ 0) → getD (x ∷ l) p 0 ≡ 0
+    go true e p h ih = absurd (let z : lowest (x ∷ l) ≡ 0 = ap (λ (b : Bool). elim b [ true ↦ 0 | false ↦ suc (lowest l) ]) e in omega arith)
+    go false e zero h ih = omega (arith, ltb-false 0 x e)
+    go false e (suc p) h ih = let z : lowest (x ∷ l) ≡ suc (lowest l) = ap (λ (b : Bool). elim b [ true ↦ 0 | false ↦ suc (lowest l) ]) e in ih p (omega arith)
+
+sum-map : {A : Type 0} (f : A → ℤ) (l : List A) → sumOf (λ (z : ℤ). z) (map f l) ≡ sumOf f l
+unfolding sumOf
+sum-map f [] = refl
+sum-map f (x ∷ l) = ap (λ (z : ℤ). f x +ℤ z) (sum-map f l)
+
+-- ---- a held building
+module _ {points : List ℤ} {entries starts : List ℕ} {s : Scalars} (ld : Loaded points entries starts s) where
+  abbrev told : Tables
+  told = heldTables points entries starts s
+
+  -- the points beyond the count are told of nothing
+  finding-held : (p : ℕ) → p < s .polygons → finding (s .tolerance) (take (s .points) (pointsOf points)) (ringAt entries starts p) ≡ finding (s .tolerance) (pointsOf points) (ringAt entries starts p)
+  finding-held p h = finding-take (pointsOf points) (s .points) (ringAt entries starts p) (ring-below ld p h) (s .tolerance)
+
+  part-held : (p : ℕ) → p < s .polygons → part (take (s .points) (pointsOf points)) (ringAt entries starts p) ≡ part (pointsOf points) (ringAt entries starts p)
+  part-held p h = part-take (pointsOf points) (s .points) (ringAt entries starts p) (ring-below ld p h)
+
+  module _ {found : List ℕ} (fo : Found points entries starts found s) where
+    pub kept-finding : (p : ℕ) → p < s .polygons → getD found p 0 ≡ findingNumber (finding (told .tolerance) (told .points) (getD (told .polygons) p []))
+    unfolding heldTables rings
+    kept-finding p h =
+        fo .each p h
+        ∙ ap findingNumber (sym (finding-held p h) ∙ ap (finding (s .tolerance) (take (s .points) (pointsOf points))) (sym (tab-at (ringAt entries starts) (s .polygons) p [] h)))
+
+    pub kept-findings : take (s .polygons) found ≡ map findingNumber (findings told)
+    unfolding findings heldTables rings
+    kept-findings =
+        take-is-tab found (s .polygons) 0 (omega (arith, fo .size, ld .begins .few))
+        ∙ tab-ext (λ p. getD found p 0) (λ p. findingNumber (finding (s .tolerance) (take (s .points) (pointsOf points)) (ringAt entries starts p))) (s .polygons) (λ p h. fo .each p h ∙ ap findingNumber (sym (finding-held p h)))
+        ∙ sym (map-tab findingNumber (λ p. finding (s .tolerance) (take (s .points) (pointsOf points)) (ringAt entries starts p)) (s .polygons))
+        ∙ ap (map findingNumber) (sym (map-tab (finding (s .tolerance) (take (s .points) (pointsOf points))) (ringAt entries starts) (s .polygons)))
+
+    pub kept-faults : tally (ltb 0) (take (s .polygons) found) ≡ report told .faults
+    unfolding report isFault
+    kept-faults = ap (tally (ltb 0)) kept-findings ∙ tally-map (ltb 0) findingNumber (findings told)
+
+    findings-count : length (findings told) ≡ s .polygons
+    unfolding findings heldTables rings
+    findings-count = length-map (tab (ringAt entries starts) (s .polygons)) (finding (s .tolerance) (take (s .points) (pointsOf points))) ∙ tab-length (ringAt entries starts) (s .polygons)
+
+    module _ {low : ℕ} (l : low ≡ lowest (take (s .polygons) found)) where
+      low-is : low ≡ lowest (map findingNumber (findings told))
+      low-is = l ∙ ap lowest kept-findings
+
+      -- some polygon has a finding
+      pub told-faulty : low < s .polygons → (f : Finding) → findingNumber f ≡ getD found low 0 → Faulty low f ≡ verdict told
+      unfolding verdict lowestFault numbered first
+      told-faulty h f e =
+          let k : lowest (map findingNumber (findings told)) < length (findings told) = omega (arith, low-is, findings-count) in
+          let z : 0 + lowest (map findingNumber (findings told)) ≡ low = omega (arith, low-is) in
+          let n : findingNumber (getD (findings told) low Sound) ≡ getD found low 0 = sym (number-at low h) in
+          let g : f ≡ getD (findings told) low Sound = number-same f (getD (findings told) low Sound) (e ∙ sym n) in
+          let q : some (Faulty (0 + lowest (map findingNumber (findings told))) (getD (findings told) (lowest (map findingNumber (findings told))) Sound)) ≡ some (Faulty low f) =
+          ap₂ (λ (i : ℕ) (x : Finding). some (Faulty i x)) z (ap (λ (i : ℕ). getD (findings told) i Sound) (sym low-is) ∙ sym g) in
+          sym (ap (λ (o : Option Verdict). first Accepted (o ∷ shapeFault (shape (told .polygons)) ∷ given (leZ (sixVolume told) (pos 0)) Inward ∷ [])) (lowest-some 0 (findings told) k ∙ q))
+        where
+          number-at : (p : ℕ) → p < s .polygons → getD found p 0 ≡ findingNumber (getD (findings told) p Sound)
+          number-at p h = sym (getD-take (s .polygons) found p 0 h) ∙ ap (λ (r : List ℕ). getD r p 0) kept-findings ∙ map-at (findings told) p (omega (arith, findings-count))
+            where
+              map-at : (fs : List Finding) (p : ℕ) → p < length fs → getD (map findingNumber fs) p 0 ≡ findingNumber (getD fs p Sound)
+              map-at [] p h = absurd (omega arith)
+              map-at (x ∷ fs) zero h = refl
+              map-at (x ∷ fs) (suc p) h = map-at fs p (omega arith)
+
+      -- none has one
+      pub told-sound : s .polygons ≤ low → verdict told ≡ first Accepted (shapeFault (shape (told .polygons)) ∷ given (leZ (sixVolume told) (pos 0)) Inward ∷ [])
+      unfolding verdict lowestFault numbered first
+      told-sound h =
+          let k : length (findings told) ≤ lowest (map findingNumber (findings told)) = omega (arith, low-is, findings-count) in
+          ap (λ (o : Option Verdict). first Accepted (o ∷ shapeFault (shape (told .polygons)) ∷ given (leZ (sixVolume told) (pos 0)) Inward ∷ [])) (lowest-none 0 (findings told) k)
+
+      -- and so none is broken
+      pub told-whole : s .polygons ≤ low → Broken entries starts (s .polygons) → ⊥
+      told-whole h b =
+          let e : getD found (b .polygon) 0 ≡ 0 = sym (getD-take (s .polygons) found (b .polygon) 0 (b .below)) ∙ lowest-before (take (s .polygons) found) (b .polygon) (omega (arith, b .below)) in
+          let y : Early (findingNumber (finding (s .tolerance) (pointsOf points) (ringAt entries starts (b .polygon)))) = broken-early (s .tolerance) (pointsOf points) (ringAt entries starts (b .polygon)) (b .broken) in
+          omega (arith, y .least, fo .each (b .polygon) (b .below))
+
+  module _ {parts : List ℤ} (su : Summed points entries starts parts s) where
+    pub kept-part : (p : ℕ) → p < s .polygons → getD parts p (pos 0) ≡ part (told .points) (getD (told .polygons) p [])
+    unfolding heldTables rings
+    kept-part p h = su .each p h ∙ sym (part-held p h) ∙ ap (part (take (s .points) (pointsOf points))) (sym (tab-at (ringAt entries starts) (s .polygons) p [] h))
+
+    pub kept-volume : sumUpTo parts (s .polygons) ≡ sixVolume told
+    unfolding sixVolume heldTables rings
+    kept-volume =
+        ap (sumOf (λ (z : ℤ). z))
+        (take-is-tab parts (s .polygons) (pos 0) (omega (arith, su .size, ld .begins .few))
+        ∙ tab-ext (λ p. getD parts p (pos 0)) (λ p. part (take (s .points) (pointsOf points)) (ringAt entries starts p)) (s .polygons) (λ p h. su .each p h ∙ sym (part-held p h))
+        ∙ sym (map-tab (part (take (s .points) (pointsOf points))) (ringAt entries starts) (s .polygons)))
+        ∙ sum-map (part (take (s .points) (pointsOf points))) (tab (ringAt entries starts) (s .polygons))
+
+    -- the sum of the first i parts is at most 6·10^15 for each entry up to there
+    sum-small : (i : ℕ) → i ≤ s .polygons → Small (getD starts i 0 * 6000000000000000) (sumUpTo parts i)
+    unfolding sumOf
+    sum-small zero h = small-zero
+    sum-small (suc i) h =
+        let r : Ring entries starts i = ring-of ld i (omega arith) in
+        let l : length (ringAt entries starts i) ≡ getD starts (i + 1) 0 - getD starts i 0 = ring-length entries starts i (r .entries-size) (r .inside) in
+        let f : getD starts i 0 ≤ getD starts (i + 1) 0 = r .forward in
+        let n : suc i ≡ i + 1 = omega arith in
+        let p : Small ((length (ringAt entries starts i) - 1) * 6000000000000000) (getD parts i (pos 0)) = subst (λ (z : ℤ). Small ((length (ringAt entries starts i) - 1) * 6000000000000000) z) (sym (su .each i (omega arith))) (part-small (ld .coords) (r .known)) in
+        let ih : Small (getD starts i 0 * 6000000000000000) (sumUpTo parts i) = sum-small i (omega arith) in
+        rw n (subst (λ (z : ℤ). Small (getD starts (i + 1) 0 * 6000000000000000) z) (sym (sum-more parts i (omega (arith, su .size, ld .begins .few)))) (small-more (grow (getD starts i 0) (getD starts (i + 1) 0) (length (ringAt entries starts i)) l f) (small-add ih p)))
+      where
+        grow : (a e l : ℕ) → l ≡ e - a → a ≤ e → a * 6000000000000000 + (l - 1) * 6000000000000000 ≤ e * 6000000000000000
+        grow a e l h g = omega arith
+
+    pub kept-summable : Summable parts (s .polygons)
+    kept-summable =
+        record {
+          size = su .size;
+          few = ld .begins .few;
+          small = λ i h. small-more (omega (arith, ld .begins .ordered i (s .polygons) h (omega arith), ld .begins .inside)) (sum-small i h);
+        }
+
+-- the stamp of a polygon
+pub kept-stamp : (a : Arrays) (s : Scalars) (p : ℕ) → p < s .polygons → getD (a .stamps) p 0 ≡ getD (heldBuilding a s .stamps) p 0
+unfolding heldBuilding
+kept-stamp a s p h = sym (getD-take (s .polygons) (a .stamps) p 0 h)
+
+-- ---- the verdict where no polygon has a finding
+rows-unsound : (sh : Shape) (v : ℤ) → ltb 0 (shapeNumber sh) ≡ true → first Accepted (shapeFault sh ∷ given (leZ v (pos 0)) Inward ∷ []) ≡ Unsound sh
+unfolding first given shapeFault
+rows-unsound sh v e = rw e
+
+rows-inward : (sh : Shape) (v : ℤ) → ltb 0 (shapeNumber sh) ≡ false → leZ v (pos 0) ≡ true → first Accepted (shapeFault sh ∷ given (leZ v (pos 0)) Inward ∷ []) ≡ Inward
+unfolding first given shapeFault
+rows-inward sh v e f = rw (e, f)
+
+rows-accepted : (sh : Shape) (v : ℤ) → ltb 0 (shapeNumber sh) ≡ false → leZ v (pos 0) ≡ false → first Accepted (shapeFault sh ∷ given (leZ v (pos 0)) Inward ∷ []) ≡ Accepted
+unfolding first given shapeFault
+rows-accepted sh v e f = rw (e, f)
+
+module _ {points : List ℤ} {entries starts : List ℕ} {s : Scalars} (ld : Loaded points entries starts s) {found : List ℕ} {parts : List ℤ} {table turned : List ℕ} (kp : Kept points entries starts found parts table turned s) where
+  pub told-number : (p : ℕ) → p < s .polygons → getD found p 0 ≤ 6
+  told-number p h = omega (arith, kp .found .each p h, number-few (finding (s .tolerance) (pointsOf points) (ringAt entries starts p)))
+
+  abbrev low : ℕ
+  low = lowest (take (s .polygons) found)
+
+  all-told : length (take (s .polygons) found) ≡ s .polygons
+  all-told = length-take-le (s .polygons) found (omega (arith, kp .found .size, ld .begins .few))
+
+  -- where some polygon has a finding, the lowest is one of them
+  pub told-low : {i : ℕ} → i ≡ low → {faults : ℕ} → faults ≡ tally (ltb 0) (take (s .polygons) found) → (faults ≡ 0 → ⊥) → i < s .polygons
+  told-low e g f = omega (arith, lowest-inside (take (s .polygons) found) (λ z. f (g ∙ z)), all-told)
+
+  module _ (sound : tally (ltb 0) (take (s .polygons) found) ≡ 0) where
+    low-past : s .polygons ≤ low
+    low-past = omega (arith, lowest-is-length (take (s .polygons) found) sound, all-told)
+
+    told-edged : Edged (rings entries starts (s .polygons)) table (s .edges) turned (s .fixed)
+    told-edged = ⊎-elim (λ b. absurd (told-whole ld (kp .found) refl low-past b)) (λ ed. ed) (kp .shaped)
+
+    -- what is kept of the shape is that of the present rings
+    told-shape : s .shape ≡ shape (rings entries starts (s .polygons))
+    told-shape = kp .shown .is (rings entries starts (s .polygons)) told-edged
+
+    module _ {number : ℕ} (n : number ≡ shapeNumber (s .shape)) where
+      pub says-unsound : (number ≡ 0 → ⊥) → Unsound (s .shape) ≡ verdict (heldTables points entries starts s)
+      unfolding heldTables
+      says-unsound z =
+          sym (told-sound ld (kp .found) refl low-past
+          ∙ ap (λ (x : Shape). first Accepted (shapeFault x ∷ given (leZ (sixVolume (heldTables points entries starts s)) (pos 0)) Inward ∷ [])) (sym told-shape)
+          ∙ rows-unsound (s .shape) (sixVolume (heldTables points entries starts s)) (above (shapeNumber (s .shape)) (λ q. z (n ∙ q))))
+
+      module _ (z : number ≡ 0) {v : ℤ} (w : v ≡ sumUpTo parts (s .polygons)) where
+        none-unsound : ltb 0 (shapeNumber (s .shape)) ≡ false
+        none-unsound = le-ltb 0 (shapeNumber (s .shape)) (omega (arith, n))
+
+        rest : verdict (heldTables points entries starts s) ≡ first Accepted (shapeFault (s .shape) ∷ given (leZ v (pos 0)) Inward ∷ [])
+        unfolding heldTables
+        rest =
+            told-sound ld (kp .found) refl low-past
+            ∙ ap₂ (λ (x : Shape) (y : ℤ). first Accepted (shapeFault x ∷ given (leZ y (pos 0)) Inward ∷ [])) (sym told-shape) (sym (w ∙ kept-volume ld (kp .summed)))
+
+        pub says-inward : leZ v (pos 0) ≡ true → Inward ≡ verdict (heldTables points entries starts s)
+        says-inward t = sym (rest ∙ rows-inward (s .shape) v none-unsound t)
+
+        pub says-accepted : leZ v (pos 0) ≡ false → Accepted ≡ verdict (heldTables points entries starts s)
+        says-accepted t = sym (rest ∙ rows-accepted (s .shape) v none-unsound t)

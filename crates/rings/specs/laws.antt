@@ -1,0 +1,4 @@
+pub mod Agree
+pub mod Copied
+pub mod Dids
+pub mod Rows

@@ -1,0 +1,134 @@
+-- The stream of document 01, and its examples marked P.
+use Prim.Native.Nat.{ℕ}
+use mathlib.Core.List.{map, reverse, List, [], _∷_, _++_}
+use mathlib.Core.Path.{_≡_, refl}
+use lib.IntN.{ℤ, pos, negsuc}
+use Rattle.whole.specs.Lists.{lists-compute}
+use Rattle.frame.specs.Text.{bytes}
+use Rattle.hex.specs.Hex.{hex-computes}
+use Rattle.frame.specs.Frame.{frame-computes}
+use Rattle.answer.specs.Answer.{answer-computes}
+use Rattle.polygon.specs.declared.Finding.{Finding}
+use Rattle.polygon.specs.declared.Finding.the-variants.{Sound, Short, Unclosed, NoNormal, Crossed, Uneven}
+use Rattle.space.specs.Space.{Point, space-computes}
+use Rattle.polygon.specs.Ring.{finding, ring-computes}
+use Rattle.volume.specs.Part.{part}
+use Rattle.plane.specs.Plane.{plane-computes}
+use Rattle.shell.specs.declared.Shape.the-variants.{Few}
+use Rattle.edges.specs.Edges.{edges-compute}
+use Rattle.reach.specs.Reach.{reach-computes}
+use Rattle.shell.specs.Shell.{shell-computes}
+use Rattle.places.specs.Points.{points-compute}
+use Rattle.building.specs.declared.Verdict.{Verdict}
+use Rattle.building.specs.declared.Verdict.the-variants.{Accepted, Unsound, Inward}
+use Rattle.building.specs.Tables.{Tables, Polygon, tables-compute}
+use Rattle.building.specs.Report.{Report, report, report-computes}
+use Rattle.service.specs.Service.{service-computes}
+use Rattle.service.specs.Stream.{stream-computes, answers}
+use Rattle.lines.specs.Lines as L
+
+unfoldable pub everything-computes : Unit {0}
+unfolding lists-compute bytes hex-computes L.lines-compute frame-computes answer-computes space-computes plane-computes ring-computes edges-compute reach-computes shell-computes points-compute tables-compute report-computes service-computes stream-computes
+everything-computes = tt
+
+-- "One stream in full": "Input to `framecheck`"
+abbrev pub input : List ℕ
+unfolding bytes
+input = bytes "010000\n02000000000000000000000000\n02000003E80000000000000000\n0200000000000003E800000000\n020000000000000000000003E8\n030000000200010000\n030000000100030000\n030000000300020000\n030001000200030001\n04\n050000000500030000000000000000000007D0\n050000000400030000000000000000000003E8\n070000\n070003\n06000000060003\n"
+
+-- "Output: nine lines `00`, then"
+abbrev pub output : List ℕ
+unfolding bytes
+output = bytes "00\n00\n00\n00\n00\n00\n00\n00\n00\n0000000000000000000000003B9ACA00\n00000000000000000000000077359400\n07\n0000000000000000000000000000\n0000000000050000000077359400\n000A000100020000FFFFFFFF88CA6C00\n"
+
+pub worked-stream : answers input ≡ output
+unfolding everything-computes
+worked-stream = refl
+
+-- ---- "Examples at the edges"
+
+abbrev pub place : ℤ → ℤ → ℤ → Point
+place x y z = record { x = x; y = y; z = z }
+
+-- n millimetres
+abbrev pub mm : ℕ → ℤ
+mm n = pos n
+
+-- a ring of the points 0 to 3, closed
+abbrev pub four : Polygon
+four = 0 ∷ 1 ∷ 2 ∷ 3 ∷ 0 ∷ []
+
+-- "(0,0,0), (1000,0,0), (1000,1000,0), (0,1000,h)"
+abbrev pub tilted : ℕ → List Point
+tilted h = place (mm 0) (mm 0) (mm 0) ∷ place (mm 1000) (mm 0) (mm 0) ∷ place (mm 1000) (mm 1000) (mm 0) ∷ place (mm 0) (mm 1000) (mm h) ∷ []
+
+-- "(0,0,0), (1000,0,1000), (1000,1000,1000), (0,1000,21)"
+abbrev pub steep : List Point
+steep = place (mm 0) (mm 0) (mm 0) ∷ place (mm 1000) (mm 0) (mm 1000) ∷ place (mm 1000) (mm 1000) (mm 1000) ∷ place (mm 0) (mm 1000) (mm 21) ∷ []
+
+-- "(0,0), (1000,1000), (1000,0)", and a last corner at (0,h)
+abbrev pub bowTie : ℕ → List Point
+bowTie h = place (mm 0) (mm 0) (mm 0) ∷ place (mm 1000) (mm 1000) (mm 0) ∷ place (mm 1000) (mm 0) (mm 0) ∷ place (mm 0) (mm h) (mm 0) ∷ []
+
+abbrev pub corners : List Point
+corners = place (mm 0) (mm 0) (mm 0) ∷ place (mm 1000) (mm 0) (mm 0) ∷ place (mm 0) (mm 1000) (mm 0) ∷ place (mm 0) (mm 0) (mm 1000) ∷ []
+
+abbrev pub three : List Polygon
+three = (0 ∷ 2 ∷ 1 ∷ 0 ∷ []) ∷ (0 ∷ 1 ∷ 3 ∷ 0 ∷ []) ∷ (0 ∷ 3 ∷ 2 ∷ 0 ∷ []) ∷ []
+
+-- "the tetrahedron above before its corrections"
+abbrev pub tetrahedron : List Polygon
+tetrahedron = three ++ ((1 ∷ 2 ∷ 3 ∷ 1 ∷ []) ∷ [])
+
+abbrev pub built : List Polygon → Tables
+built rings = record { tolerance = 0; points = corners; polygons = rings }
+
+abbrev pub says : Verdict → ℤ → Report
+says v volume = record { check = v; faults = 0; volume = volume }
+
+-- the points of an open ring whose part is not negated by turning
+abbrev pub uneven : List Point
+uneven = place (mm 0) (mm 0) (mm 0) ∷ place (mm 1) (mm 0) (mm 5) ∷ place (mm 1) (mm 1) (mm 7) ∷ place (mm 5) (mm 9) (mm 1) ∷ []
+
+abbrev pub unclosed : Polygon
+unclosed = 1 ∷ 2 ∷ 3 ∷ 0 ∷ []
+
+-- an example: a ring's finding, a ring's part, or a building's report
+pub data Example : Type 0 where
+  ring : ℕ → List Point → Polygon → Finding → Example
+  parted : List Point → Polygon → ℤ → Example
+  building : List Polygon → Report → Example
+
+-- what an example claims
+abbrev pub Claim : Example → Type 0
+Claim (ring tolerance points r f) = finding tolerance points r ≡ f
+Claim (parted points r z) = part points r ≡ z
+Claim (building rings r) = report (built rings) ≡ r
+
+-- all of a list of claims
+abbrev pub All : List Example → Type 0
+All [] = Unit {0}
+All (e ∷ es) = Claim e × All es
+
+-- the examples marked P, and the ring of request (ii); and an open ring, of which turning does not negate the part
+abbrev pub examples : List Example
+examples =
+    ring 10 (tilted 20) four Sound ∷
+    ring 10 (tilted 21) four Uneven ∷
+    ring 10 steep four Sound ∷
+    ring 0 (bowTie 1000) four NoNormal ∷
+    ring 0 (bowTie 2000) four Crossed ∷
+    ring 0 corners [] Short ∷
+    ring 0 corners (0 ∷ 1 ∷ 0 ∷ []) Short ∷
+    ring 0 corners (0 ∷ 1 ∷ 2 ∷ 3 ∷ []) Unclosed ∷
+    building tetrahedron (says Accepted (pos 1000000000)) ∷
+    building (map reverse tetrahedron) (says Inward (negsuc 999999999)) ∷
+    building three (says (Unsound (Few 3)) (pos 0)) ∷
+    building [] (says (Unsound (Few 0)) (pos 0)) ∷
+    parted uneven unclosed (negsuc 41) ∷
+    parted uneven (reverse unclosed) (pos 0) ∷
+    []
+
+pub examples-hold : All examples
+unfolding everything-computes
+examples-hold = (refl, (refl, (refl, (refl, (refl, (refl, (refl, (refl, (refl, (refl, (refl, (refl, (refl, (refl, tt))))))))))))))

@@ -1,0 +1,9 @@
+pub mod Service
+pub mod Stream
+pub mod Strike
+pub mod Fresh
+pub mod Span
+pub mod laws
+pub mod Examples
+pub mod Wrong
+pub mod Demands

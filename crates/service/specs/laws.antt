@@ -1,0 +1,9 @@
+pub mod Handlers
+pub mod Refusals
+pub mod Short
+pub mod Room
+pub mod History
+pub mod Strike
+pub mod Fresh
+pub mod Span
+pub mod Entry

@@ -1,0 +1,4 @@
+-- What the contracts cite: how arrays and numbers stand for the definitions, and what single steps of the code leave.
+pub mod Held
+pub mod Kept
+pub mod Runs

@@ -1,0 +1,6 @@
+pub mod Agree
+pub mod Laws
+pub mod Numbers
+pub mod Points
+pub mod Sizes
+pub mod Sums

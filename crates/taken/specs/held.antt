@@ -1,0 +1,3 @@
+pub mod Buckets
+pub mod Chains
+pub mod Else

@@ -1,0 +1,4 @@
+pub mod Agree
+pub mod Buckets
+pub mod Chains
+pub mod Else

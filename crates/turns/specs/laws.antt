@@ -1,0 +1,4 @@
+pub mod Agree
+pub mod Reversing
+pub mod Rings
+pub mod Turned

@@ -1,0 +1,51 @@
+-- `verdict::element_b` meets its contract, case by case.
+use mathlib.Core.Path.{sym, ap, _∙_}
+use borrow.Author.Needs.{needs}
+use Rattle.building.specs.Report.{elementB}
+use Rattle.verdict.proofs.element_b.Statement.{statement}
+use Rattle.verdict.proofs.element_b.Tie as tie
+
+enum-told : tie.Need-enum-told
+enum-told c = search needs
+
+enum-told-2 : tie.Need-enum-told-2
+enum-told-2 c = search needs
+
+enum-known-v : tie.Need-enum-known-v
+enum-known-v c = search needs
+
+shape-b-requires : tie.Need-shape-b-requires
+shape-b-requires c κs = search needs
+
+enum-told-3 : tie.Need-enum-told-3
+enum-told-3 c = search needs
+
+returns : tie.Need-returns
+unfolding elementB
+returns c = search needs
+
+returns-2 : tie.Need-returns-2
+unfolding elementB
+returns-2 c = search needs
+
+returns-3 : tie.Need-returns-3
+unfolding elementB
+returns-3 c = c .shape-b .ensures ∙ sym (ap elementB (c .before .before .v .given .1))
+
+returns-4 : tie.Need-returns-4
+unfolding elementB
+returns-4 c = search needs
+
+pub element-b-spec : {M : Type 1} → statement M
+element-b-spec =
+    tie.close
+    (tie.spec
+    enum-told
+    enum-told-2
+    enum-known-v
+    shape-b-requires
+    enum-told-3
+    returns
+    returns-2
+    returns-3
+    returns-4)

@@ -1,0 +1,4 @@
+pub mod Agree
+pub mod PartSizes
+pub mod Sums
+pub mod Turn

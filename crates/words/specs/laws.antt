@@ -1,0 +1,4 @@
+-- What is proved of the definitions.
+pub mod Mates
+pub mod Nodes
+pub mod Agree
