@@ -1,6 +1,6 @@
 // Frame 05, a move: why it is refused, and what it does.
 use desk::Desk;
-use desk::Mode;
+use modes::Mode;
 use service::Refusal;
 ghost use mathlib.Core.Path.{_≡_};
 ghost use Prim.Native.Nat.{_+_, _≤_};
@@ -19,7 +19,7 @@ fn of_move(points: &[i32; 1536], d: Desk, number: u32, p: usize, x: i64, y: i64,
     let held = d.held;
     let n = held.points;
     let last = held.last;
-    if !desk::is_holding(mode) {
+    if !modes::is_holding(mode) {
         return Refusal::Misplaced;
     }
     if number <= last {

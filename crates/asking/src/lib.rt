@@ -16,7 +16,7 @@ fn of_question(d: Desk, p: usize) -> Refusal
     let mode = d.mode;
     let held = d.held;
     let n = held.polygons;
-    if !desk::is_holding(mode) {
+    if !modes::is_holding(mode) {
         return Refusal::Misplaced;
     }
     if n <= p {

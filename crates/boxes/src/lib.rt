@@ -49,7 +49,10 @@ fn clash_next(us: &[i64], vs: &[i64], m: usize, i: usize) -> bool
     ensures { λ r. ⌜ r ≡ forbidden m (i, edgeAt (now (us .entry)) (now (vs .entry)) i) (i + 1, edgeAt (now (us .entry)) (now (vs .entry)) (i + 1)) ⌝ }
 {
     let next = i + 1;
-    plane::share_more(plane::edge_at(us, vs, i), plane::edge_at(us, vs, next))
+    neighbours::share_more(
+        neighbours::edge_at(us, vs, i),
+        neighbours::edge_at(us, vs, next),
+    )
 }
 
 // Whether some edge of m and the next one do, all being looked at: no step of this branches.
@@ -75,7 +78,10 @@ fn clash_last(us: &[i64], vs: &[i64], m: usize) -> bool
     ensures { λ r. ⌜ r ≡ forbidden m (0, edgeAt (now (us .entry)) (now (vs .entry)) 0) (m - 1, edgeAt (now (us .entry)) (now (vs .entry)) (m - 1)) ⌝ }
 {
     let last = m - 1;
-    plane::share_more(plane::edge_at(us, vs, last), plane::edge_at(us, vs, 0))
+    neighbours::share_more(
+        neighbours::edge_at(us, vs, last),
+        neighbours::edge_at(us, vs, 0),
+    )
 }
 
 // Whether two neighbours among m edges do.
@@ -111,7 +117,7 @@ fn eight_beside(us: &[i64], vs: &[i64], m: usize, i: usize, j: usize) -> bool
     requires { ⌜ (i < m) × (j + 8 ≤ m) × (m ≤ 128) ⌝ }
     ensures { λ r. ⌜ Beside (now (us .entry)) (now (vs .entry)) i j r ⌝ }
 {
-    let e = plane::edge_at(us, vs, i);
+    let e = neighbours::edge_at(us, vs, i);
     let mut left = true;
     let mut right = true;
     let mut n: usize = 0;
@@ -161,7 +167,10 @@ fn clash_past(
     if beside | above {
         return false;
     }
-    plane::share(plane::edge_at(us, vs, i), plane::edge_at(us, vs, k))
+    plane::share(
+        neighbours::edge_at(us, vs, i),
+        neighbours::edge_at(us, vs, k),
+    )
 }
 
 // Whether edge i of m and one from j up to e, past its neighbours, do.

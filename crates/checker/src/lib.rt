@@ -1,8 +1,8 @@
 // The service: the lines of a stream one after the other, each refused or taken, and the one public entry.
 use building::Scalars;
 use desk::Desk;
-use desk::Mode;
 use frame::Fields;
+use modes::Mode;
 use service::Refusal;
 use shell::Shape;
 ghost use mathlib.Core.Path.{_≡_};

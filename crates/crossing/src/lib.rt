@@ -13,13 +13,13 @@ fn clash(us: &[i64], vs: &[i64], m: usize, i: usize, j: usize) -> bool
     requires { ⌜ (i < j) × (j < m) ⌝ }
     ensures { λ r. ⌜ r ≡ forbidden m (i, edgeAt (now (us .entry)) (now (vs .entry)) i) (j, edgeAt (now (us .entry)) (now (vs .entry)) j) ⌝ }
 {
-    let e = plane::edge_at(us, vs, i);
-    let f = plane::edge_at(us, vs, j);
+    let e = neighbours::edge_at(us, vs, i);
+    let f = neighbours::edge_at(us, vs, j);
     if i + 1 == j {
-        return plane::share_more(e, f);
+        return neighbours::share_more(e, f);
     }
     if (i == 0) & (j + 1 == m) {
-        return plane::share_more(f, e);
+        return neighbours::share_more(f, e);
     }
     plane::share(e, f)
 }

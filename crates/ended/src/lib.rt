@@ -1,6 +1,6 @@
 // Frame 04, end of load: why it is refused, and what it does.
 use desk::Desk;
-use desk::Mode;
+use modes::Mode;
 use service::Refusal;
 ghost use Prim.Native.Nat.{_+_, _≤_};
 ghost use lib.ListN.{length};
@@ -14,7 +14,7 @@ fn of_end(d: Desk) -> Refusal
     ensures { λ r. ⌜ EndRow d r ⌝ }
 {
     let mode = d.mode;
-    if !desk::is_loading(mode) {
+    if !modes::is_loading(mode) {
         return Refusal::Misplaced;
     }
     Refusal::Accepted

@@ -1,7 +1,7 @@
 // Frames 01 and 02: begin, and a point more.
 use building::Scalars;
 use desk::Desk;
-use desk::Mode;
+use modes::Mode;
 use service::Refusal;
 use shell::Shape;
 

@@ -1,7 +1,7 @@
 // Frame 02, a point more: why it is refused, and what it does.
 use building::Scalars;
 use desk::Desk;
-use desk::Mode;
+use modes::Mode;
 use service::Refusal;
 use shell::Shape;
 ghost use mathlib.Core.Path.{_≡_};
@@ -20,7 +20,7 @@ fn of_point(points: &[i32; 1536], table: &[u64; 1024], d: Desk, x: i64, y: i64, 
     let mode = d.mode;
     let held = d.held;
     let n = held.points;
-    if !desk::is_loading(mode) {
+    if !modes::is_loading(mode) {
         return Refusal::Misplaced;
     }
     if places::is_far(x, y, z) {

@@ -1,7 +1,7 @@
 // Frame 03, a polygon more: why it is refused, and what it does.
 use building::Scalars;
 use desk::Desk;
-use desk::Mode;
+use modes::Mode;
 use service::Refusal;
 use shell::Shape;
 ghost use mathlib.Core.Path.{_≡_};
@@ -42,7 +42,7 @@ fn of_polygon(line: &[u8], n: usize, starts: &[u16; 257], d: Desk) -> Refusal
     let held = d.held;
     let points = held.points;
     let polygons = held.polygons;
-    if !desk::is_loading(mode) {
+    if !modes::is_loading(mode) {
         return Refusal::Misplaced;
     }
     if names_absent(line, n, points) {

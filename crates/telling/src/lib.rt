@@ -40,7 +40,7 @@ pub fn put_report(
         volume,
     );
     let check = verdict::check_number(v);
-    let a = verdict::element_a(v);
-    let b = verdict::element_b(v);
+    let a = elements::element_a(v);
+    let b = elements::element_b(v);
     answer::put_report(room, from, check, a, b, faults, volume)
 }

@@ -1,6 +1,6 @@
 // Frame 06, a turn: why it is refused, and what it does.
 use desk::Desk;
-use desk::Mode;
+use modes::Mode;
 use service::Refusal;
 ghost use Prim.Native.Nat.{_+_, _≤_};
 ghost use lib.ListN.{length};
@@ -17,7 +17,7 @@ fn of_turn(d: Desk, number: u32, p: usize) -> Refusal
     let held = d.held;
     let n = held.polygons;
     let last = held.last;
-    if !desk::is_holding(mode) {
+    if !modes::is_holding(mode) {
         return Refusal::Misplaced;
     }
     if number <= last {

@@ -19,7 +19,8 @@ use Rattle.service.specs.declared.Refusal.the-variants.{Accepted, Misplaced, Be
 use Rattle.service.specs.Service.{State, isMalformed, isMisplaced, refusal, isAccepted}
 use Rattle.service.specs.laws.Handlers.{of-move}
 use Rattle.desk.specs.declared.Desk.{Desk}
-use Rattle.desk.specs.held.Holds.{holds, service, Valid}
+use Rattle.modes.specs.held.Mode.{holds}
+use Rattle.desk.specs.held.Holds.{service, Valid}
 use Rattle.desk.specs.laws.Rows.{tables, service-holds, refused, not-holding}
 use Rattle.amend.specs.held.Amend.{MoveRow}
 

@@ -14,7 +14,8 @@ use Rattle.report.specs.laws.Told.{kept-finding, kept-part, kept-stamp}
 use Rattle.service.specs.declared.Refusal.{Refusal}
 use Rattle.service.specs.Service.{State, buildingOf, isMisplaced, refusal, takes, toldOf, answerTo, isAccepted}
 use Rattle.desk.specs.declared.Desk.{Desk}
-use Rattle.desk.specs.held.Holds.{holds, service, Valid, Did, does}
+use Rattle.modes.specs.held.Mode.{holds}
+use Rattle.desk.specs.held.Holds.{service, Valid, Did, does}
 use Rattle.desk.specs.laws.Rows.{tables, service-holds}
 use Rattle.desk.specs.laws.Dids.{valid-at, valid-held, did-accepted, passed-row, holding-mode}
 

@@ -6,7 +6,7 @@ use lib.ListN.{length}
 use lib.Seq.{sets}
 use Rattle.shell.specs.declared.Shape.the-variants.{Whole}
 use Rattle.service.specs.Stream.{answers}
-use Rattle.desk.specs.declared.Mode.the-variants.{Nothing}
+use Rattle.modes.specs.declared.Mode.the-variants.{Nothing}
 use Rattle.desk.specs.declared.Desk.{Desk}
 
 -- "no load running and no building held"

@@ -24,8 +24,9 @@ use Rattle.service.specs.Stream.{run, answers, served, Answers, stream-computes
 use Rattle.service.specs.laws.Short.{step-short, answers-short}
 use Rattle.service.specs.laws.Room.{long-stream, many-lines, narrow-room, answered-stream}
 use Rattle.desk.specs.declared.Desk.{Desk}
-use Rattle.desk.specs.declared.Mode.the-variants.{Nothing, Loading, Holding}
-use Rattle.desk.specs.held.Holds.{loads, holds, stateOf, service, Valid, Did, does}
+use Rattle.modes.specs.declared.Mode.the-variants.{Nothing, Loading, Holding}
+use Rattle.modes.specs.held.Mode.{loads, holds}
+use Rattle.desk.specs.held.Holds.{stateOf, service, Valid, Did, does}
 use Rattle.checker.specs.held.Answered.{idleDesk, Answered}
 use Rattle.service.specs.Stream as Stream
 

@@ -11,20 +11,9 @@ use Rattle.taken.specs.held.Chains.{Chained}
 use Rattle.building.specs.Tables.{Tables, Building}
 use Rattle.building.specs.held.Holds.{Arrays, heldTables, heldBuilding, Loaded, Sizes, Kept}
 use Rattle.service.specs.Service.{State, nothing, loading, holding, Outcome, outcome, refusal}
-use Rattle.desk.specs.declared.Mode.{Mode}
-use Rattle.desk.specs.declared.Mode.the-variants.{Nothing, Loading, Holding}
+use Rattle.modes.specs.declared.Mode.{Mode}
+use Rattle.modes.specs.declared.Mode.the-variants.{Nothing, Loading, Holding}
 use Rattle.desk.specs.declared.Desk.{Desk}
-
--- whether a load is running, whether a building is held
-abbrev pub loads : Mode → Bool
-loads Nothing = false
-loads Loading = true
-loads Holding = false
-
-abbrev pub holds : Mode → Bool
-holds Nothing = false
-holds Loading = false
-holds Holding = true
 
 -- the state of a mode, over the tables of a load and a held building
 unfoldable pub stateOf : Mode → Tables → Building → State

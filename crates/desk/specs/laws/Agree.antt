@@ -8,9 +8,8 @@ use Rattle.whole.specs.laws.Agree.{agree}
 use Rattle.building.specs.held.Holds.{Arrays}
 use Rattle.service.specs.declared.Refusal.{Refusal}
 use Rattle.service.specs.Service.{Outcome, refused, isAccepted}
-use Rattle.desk.specs.declared.Mode.{Mode}
 use Rattle.desk.specs.declared.Desk.{Desk}
-use Rattle.desk.specs.held.Holds.{loads, holds, service, Did}
+use Rattle.desk.specs.held.Holds.{service, Did}
 
 -- the whole room, the place of the next answer, and what is held
 abbrev pub Same : List ℕ → List ℕ → Arrays → Arrays → Desk → Desk → Type 0
@@ -23,12 +22,6 @@ did-agree p q = (agree (p .wrote) (q .wrote), agree (p .past) (q .past), agree (
 
 pub is-accepted-agrees : (r : Refusal) (b₁ b₂ : Bool) → b₁ ≡ isAccepted r → b₂ ≡ isAccepted r → b₁ ≡ b₂
 is-accepted-agrees r b₁ b₂ = agree
-
-pub is-loading-agrees : (m : Mode) (b₁ b₂ : Bool) → b₁ ≡ loads m → b₂ ≡ loads m → b₁ ≡ b₂
-is-loading-agrees m b₁ b₂ = agree
-
-pub is-holding-agrees : (m : Mode) (b₁ b₂ : Bool) → b₁ ≡ holds m → b₂ ≡ holds m → b₁ ≡ b₂
-is-holding-agrees m b₁ b₂ = agree
 
 pub refuse-agrees : (r : Refusal) (a : Arrays) (d : Desk) (room room₁ room₂ : List ℕ) (d₁ d₂ : Desk) → Did (refused r (service a d)) room (d .at) a room₁ d₁
     → Did (refused r (service a d)) room (d .at) a room₂ d₂ → (room₁ ≡ room₂) × (d₁ .at ≡ d₂ .at) × (service a d₁ ≡ service a d₂)

@@ -16,10 +16,11 @@ use Rattle.service.specs.declared.Refusal.{Refusal}
 use Rattle.service.specs.Service.{State, holding, isLoading, isHolding, refusal, refusalNumber, takes, reportOf, answerTo, Outcome, outcome, refused, isAccepted}
 use Rattle.service.specs.laws.Refusals.{refused-outcome, accepted-outcome}
 use Rattle.service.specs.laws.Fresh.{Passed, passed}
-use Rattle.desk.specs.declared.Mode.{Mode}
-use Rattle.desk.specs.declared.Mode.the-variants.{Nothing, Loading, Holding}
+use Rattle.modes.specs.declared.Mode.{Mode}
+use Rattle.modes.specs.declared.Mode.the-variants.{Nothing, Loading, Holding}
 use Rattle.desk.specs.declared.Desk.{Desk}
-use Rattle.desk.specs.held.Holds.{loads, holds, stateOf, service, Valid, Did, does}
+use Rattle.modes.specs.held.Mode.{loads, holds}
+use Rattle.desk.specs.held.Holds.{stateOf, service, Valid, Did, does}
 use Rattle.building.specs.held.Holds as B
 
 -- ---- refused

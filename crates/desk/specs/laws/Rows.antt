@@ -12,10 +12,11 @@ use Rattle.building.specs.held.Holds.{Arrays, heldTables, heldBuilding}
 use Rattle.service.specs.declared.Refusal.{Refusal}
 use Rattle.service.specs.declared.Refusal.the-variants.{Accepted, Malformed, Misplaced, Beyond, Full, Absent, Taken, Late}
 use Rattle.service.specs.Service.{State, loading, holding, isLoading, isHolding, isMalformed, isMisplaced, refusal, refusalNumber, isAccepted}
-use Rattle.desk.specs.declared.Mode.{Mode}
-use Rattle.desk.specs.declared.Mode.the-variants.{Nothing, Loading, Holding}
+use Rattle.modes.specs.declared.Mode.{Mode}
+use Rattle.modes.specs.declared.Mode.the-variants.{Nothing, Loading, Holding}
 use Rattle.desk.specs.declared.Desk.{Desk}
-use Rattle.desk.specs.held.Holds.{loads, holds, stateOf, service, Valid}
+use Rattle.modes.specs.held.Mode.{loads, holds}
+use Rattle.desk.specs.held.Holds.{stateOf, service, Valid}
 use Rattle.desk.specs.held.Row.{Row}
 
 pub accepted-number : (r : Refusal) → eqb (refusalNumber r) 0 ≡ isAccepted r

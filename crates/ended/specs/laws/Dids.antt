@@ -11,9 +11,10 @@ use Rattle.building.specs.Tables.{loaded}
 use Rattle.building.specs.held.Holds.{Arrays, heldTables, heldBuilding}
 use Rattle.service.specs.declared.Refusal.{Refusal}
 use Rattle.service.specs.Service.{State, tablesOf, isMisplaced, refusal, takes, reportOf, answerTo, isAccepted}
-use Rattle.desk.specs.declared.Mode.the-variants.{Holding}
+use Rattle.modes.specs.declared.Mode.the-variants.{Holding}
 use Rattle.desk.specs.declared.Desk.{Desk}
-use Rattle.desk.specs.held.Holds.{loads, service, Valid, Did, does}
+use Rattle.modes.specs.held.Mode.{loads}
+use Rattle.desk.specs.held.Holds.{service, Valid, Did, does}
 use Rattle.desk.specs.laws.Rows.{tables, service-loads}
 use Rattle.desk.specs.laws.Dids.{passed-row, loading-mode, did-report}
 use Rattle.building.specs.held.Holds as B

@@ -6,7 +6,7 @@ use Rattle.service.specs.declared.Refusal.the-variants.{Accepted, Misplaced}
 use Rattle.service.specs.Service.{State, isMalformed, isMisplaced, refusal}
 use Rattle.service.specs.laws.Handlers.{of-end}
 use Rattle.desk.specs.declared.Desk.{Desk}
-use Rattle.desk.specs.held.Holds.{loads}
+use Rattle.modes.specs.held.Mode.{loads}
 use Rattle.desk.specs.laws.Rows.{tables, service-loads, not-loading}
 use Rattle.ended.specs.held.Ended.{EndRow}
 

@@ -1,6 +1,6 @@
 -- `load::clear_chains` meets its contract.
 use mathlib.Core.Path.{sym, ap, _∙_}
-use Rattle.desk.specs.declared.Mode.{Mode}
+use Rattle.modes.specs.declared.Mode.{Mode}
 use Rattle.load.specs.held.Load.{unchained}
 use borrow.Author.Needs.{needs}
 use Rattle.load.proofs.clear_chains.Statement.{statement}

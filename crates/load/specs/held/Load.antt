@@ -12,8 +12,8 @@ use Rattle.places.specs.held.Places.{point3}
 use Rattle.places.specs.Points.{isFar}
 use Rattle.building.specs.held.Holds.{Arrays}
 use Rattle.service.specs.declared.Refusal.{Refusal}
-use Rattle.desk.specs.declared.Mode.{Mode}
-use Rattle.desk.specs.declared.Mode.the-variants.{Nothing, Loading, Holding}
+use Rattle.modes.specs.declared.Mode.{Mode}
+use Rattle.modes.specs.declared.Mode.the-variants.{Nothing, Loading, Holding}
 use Rattle.desk.specs.declared.Desk.{Desk}
 use Rattle.desk.specs.held.Row.{Row}
 

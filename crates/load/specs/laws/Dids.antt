@@ -22,10 +22,11 @@ use Rattle.service.specs.declared.Refusal.the-variants.{Accepted, Beyond}
 use Rattle.service.specs.Service.{State, loading, tablesOf, isMisplaced, isBeyond, refusal, takes, answerTo, Outcome, refused, isAccepted}
 use Rattle.service.specs.laws.Fresh.{Passed}
 use Rattle.service.specs.laws.Handlers.{of-begin}
-use Rattle.desk.specs.declared.Mode.{Mode}
-use Rattle.desk.specs.declared.Mode.the-variants.{Nothing, Loading, Holding}
+use Rattle.modes.specs.declared.Mode.{Mode}
+use Rattle.modes.specs.declared.Mode.the-variants.{Nothing, Loading, Holding}
 use Rattle.desk.specs.declared.Desk.{Desk}
-use Rattle.desk.specs.held.Holds.{loads, stateOf, service, Valid, Did, does}
+use Rattle.modes.specs.held.Mode.{loads}
+use Rattle.desk.specs.held.Holds.{stateOf, service, Valid, Did, does}
 use Rattle.desk.specs.laws.Rows.{tables, loads-is, service-loads}
 use Rattle.desk.specs.laws.Dids.{did-refused, did-accepted, passed-row, loading-mode, not-held, loading-not-nothing}
 use Rattle.load.specs.held.Load.{unchained, withPoints}

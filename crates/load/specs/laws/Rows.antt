@@ -20,7 +20,8 @@ use Rattle.service.specs.declared.Refusal.the-variants.{Accepted, Misplaced, Be
 use Rattle.service.specs.Service.{State, isMalformed, isMisplaced, refusal, isAccepted}
 use Rattle.service.specs.laws.Handlers.{of-point}
 use Rattle.desk.specs.declared.Desk.{Desk}
-use Rattle.desk.specs.held.Holds.{loads, service, Valid}
+use Rattle.modes.specs.held.Mode.{loads}
+use Rattle.desk.specs.held.Holds.{service, Valid}
 use Rattle.desk.specs.laws.Rows.{tables, service-loads, refused, not-loading}
 use Rattle.load.specs.held.Load.{PointRow}
 

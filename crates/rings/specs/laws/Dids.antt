@@ -19,9 +19,10 @@ use Rattle.building.specs.laws.Load.{Room, tables-points, loaded-polygon, table
 use Rattle.service.specs.declared.Refusal.{Refusal}
 use Rattle.service.specs.Service.{State, loading, tablesOf, isMisplaced, isAbsent, refusal, takes, answerTo, Outcome, isAccepted}
 use Rattle.service.specs.laws.Fresh.{Passed, known-ring}
-use Rattle.desk.specs.declared.Mode.the-variants.{Loading}
+use Rattle.modes.specs.declared.Mode.the-variants.{Loading}
 use Rattle.desk.specs.declared.Desk.{Desk}
-use Rattle.desk.specs.held.Holds.{loads, stateOf, service, Valid, Did, does}
+use Rattle.modes.specs.held.Mode.{loads}
+use Rattle.desk.specs.held.Holds.{stateOf, service, Valid, Did, does}
 use Rattle.desk.specs.laws.Rows.{tables, loads-is, service-loads}
 use Rattle.desk.specs.laws.Dids.{did-accepted, passed-row, loading-mode, not-held, loading-not-nothing}
 use Rattle.rings.specs.held.Rings.{withRings}

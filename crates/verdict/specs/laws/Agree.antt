@@ -5,17 +5,10 @@ use Rattle.whole.specs.laws.Agree.{agree}
 use Rattle.shell.specs.declared.Shape.{Shape}
 use Rattle.shell.specs.Shell.{shapeNumber}
 use Rattle.building.specs.declared.Verdict.{Verdict}
-use Rattle.building.specs.Report.{checkNumber, elementA, elementB}
+use Rattle.building.specs.Report.{checkNumber}
 
 pub shape-number-agrees : (s : Shape) (r₁ r₂ : ℕ) → r₁ ≡ shapeNumber s → r₂ ≡ shapeNumber s → r₁ ≡ r₂
 shape-number-agrees s r₁ r₂ = agree
 
-module _ (v : Verdict) (r₁ r₂ : ℕ) where
-  pub check-number-agrees : r₁ ≡ checkNumber v → r₂ ≡ checkNumber v → r₁ ≡ r₂
-  check-number-agrees = agree
-
-  pub element-a-agrees : r₁ ≡ elementA v → r₂ ≡ elementA v → r₁ ≡ r₂
-  element-a-agrees = agree
-
-  pub element-b-agrees : r₁ ≡ elementB v → r₂ ≡ elementB v → r₁ ≡ r₂
-  element-b-agrees = agree
+pub check-number-agrees : (v : Verdict) (r₁ r₂ : ℕ) → r₁ ≡ checkNumber v → r₂ ≡ checkNumber v → r₁ ≡ r₂
+check-number-agrees v r₁ r₂ = agree

@@ -1,8 +1,8 @@
--- `verdict::shape_b` meets its contract, case by case.
+-- `elements::shape_b` meets its contract, case by case.
 use borrow.Author.Needs.{needs}
 use Rattle.shell.specs.Shell.{shapeB}
-use Rattle.verdict.proofs.shape_b.Statement.{statement}
-use Rattle.verdict.proofs.shape_b.Tie as tie
+use Rattle.elements.proofs.shape_b.Statement.{statement}
+use Rattle.elements.proofs.shape_b.Tie as tie
 
 enum-told : tie.Need-enum-told
 enum-told c = search needs

@@ -1,10 +1,10 @@
--- `plane::ahead` meets its contract. The products of small ways fit.
+-- `neighbours::ahead` meets its contract. The products of small ways fit.
 use mathlib.Core.List.{List, [], _∷_}
 use mir.Syntax.{w64}
 use Rattle.whole.specs.laws.Mach.{Leaf, whole, asks, yields}
 use Rattle.whole.specs.laws.Solve.{v, _⊕_, _⊗_}
-use Rattle.plane.proofs.ahead.Statement.{statement}
-use Rattle.plane.proofs.ahead.Tie as tie
+use Rattle.neighbours.proofs.ahead.Statement.{statement}
+use Rattle.neighbours.proofs.ahead.Tie as tie
 
 -- the two ways' numbers
 abbrev leaves : tie.Start → List Leaf

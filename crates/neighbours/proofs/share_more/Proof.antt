@@ -1,4 +1,4 @@
--- `plane::share_more` meets its contract. The two ways are handed on as differences.
+-- `neighbours::share_more` meets its contract. The two ways are handed on as differences.
 use mathlib.Core.List.{List, [], _∷_}
 use mathlib.Core.Bool.{_&&_}
 use mathlib.Core.Path.{_∙_, ap, ap₂}
@@ -11,11 +11,11 @@ use Rattle.whole.specs.laws.Mach.{Leaf, inner, node, asks, plain, seen-small}
 use Rattle.whole.specs.laws.Size.{call-is}
 use Rattle.whole.specs.Lists.{sameZ}
 use Rattle.whole.specs.laws.Solve.{v, _⊕_, _⊖_, _⊗_}
 use Rattle.plane.specs.Plane.{shareMore, turnOff, ahead}
 use Rattle.plane.specs.laws.Sizing.{zero-test}
 use Rattle.plane.specs.laws.Numbers.{ends}
-use Rattle.plane.proofs.share_more.Statement.{statement}
-use Rattle.plane.proofs.share_more.Tie as tie
+use Rattle.neighbours.proofs.share_more.Statement.{statement}
+use Rattle.neighbours.proofs.share_more.Tie as tie
 
 -- the numbers of the two edges
 abbrev leaves : tie.After-struct-told8 → List Leaf

@@ -1,9 +1,9 @@
--- `verdict::element_b` meets its contract, case by case.
+-- `elements::element_b` meets its contract, case by case.
 use mathlib.Core.Path.{sym, ap, _∙_}
 use borrow.Author.Needs.{needs}
 use Rattle.building.specs.Report.{elementB}
-use Rattle.verdict.proofs.element_b.Statement.{statement}
-use Rattle.verdict.proofs.element_b.Tie as tie
+use Rattle.elements.proofs.element_b.Statement.{statement}
+use Rattle.elements.proofs.element_b.Tie as tie
 
 enum-told : tie.Need-enum-told
 enum-told c = search needs

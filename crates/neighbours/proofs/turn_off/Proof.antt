@@ -1,10 +1,10 @@
--- `plane::turn_off` meets its contract. The products of small ways fit.
+-- `neighbours::turn_off` meets its contract. The products of small ways fit.
 use mathlib.Core.List.{List, [], _∷_}
 use mir.Syntax.{w64}
 use Rattle.whole.specs.laws.Mach.{Leaf, whole, asks, yields}
 use Rattle.whole.specs.laws.Solve.{v, _⊖_, _⊗_}
-use Rattle.plane.proofs.turn_off.Statement.{statement}
-use Rattle.plane.proofs.turn_off.Tie as tie
+use Rattle.neighbours.proofs.turn_off.Statement.{statement}
+use Rattle.neighbours.proofs.turn_off.Tie as tie
 
 -- the two ways' numbers
 abbrev leaves : tie.Start → List Leaf
