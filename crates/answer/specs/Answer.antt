@@ -1,6 +1,6 @@
 -- What comes back for a line, as digits.
 use Prim.Native.Nat.{ℕ}
-use mathlib.Core.List.{List, [], _∷_, _++_}
+use mathlib.Core.List.{List, _++_}
 use lib.IntN.{ℤ}
 use Rattle.hex.specs.Hex.{digits, bits64}
 

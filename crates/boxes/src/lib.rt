@@ -108,7 +108,7 @@ fn off(e: Edge, cu: i64, cv: i64) -> i64
     let av = e.av;
     let bu = e.bu;
     let bv = e.bv;
-    (bu - au) * (cv - av) - (bv - av) * (cu - au)
+    plane::side(au, av, bu, bv, cu, cv)
 }
 
 // Whether the nine places of the eight edges from j on lie all on one side of edge i's line: no step of this branches.

@@ -1,7 +1,5 @@
 // What is answered to a line: a refusal's digits, or `00` alone.
 use super::Desk;
-use building::Scalars;
-use modes::Mode;
 use service::Refusal;
 ghost use mathlib.Core.Path.{_≡_};
 ghost use Prim.Native.Nat.{_+_, _≤_};

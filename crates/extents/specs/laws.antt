@@ -1,3 +1,4 @@
+-- What is proved of the definitions.
 pub mod Copy
 pub mod Sizing
 pub mod Steps

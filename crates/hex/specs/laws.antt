@@ -1,3 +1,4 @@
+-- What is proved of the definitions.
 pub mod Digits
 pub mod Signed
 pub mod Agree

@@ -1,10 +1,8 @@
 -- The plane of check 05, left by dropping an axis, and when two segments in it share a point.
-use Prim.Native.Nat.{ℕ}
-use mathlib.Core.Bool.{Bool, true, false, cond, not, _&&_, _||_}
-use mathlib.Core.List.{List, [], _∷_}
+use mathlib.Core.Bool.{Bool, cond, not, _&&_, _||_}
 use lib.Dec.{leb}
 use lib.IntN.{ℤ, pos, natAbs, _+ℤ_, _-ℤ_, _*ℤ_}
-use lib.Signed.{ltZ, leZ}
+use lib.Signed.{ltZ}
 use Rattle.whole.specs.Lists.{sameZ}
 use Rattle.space.specs.declared.Axis.{Axis}
 use Rattle.space.specs.declared.Axis.the-variants.{X, Y, Z}

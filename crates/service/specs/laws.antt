@@ -1,3 +1,4 @@
+-- What is proved of the definitions.
 pub mod Handlers
 pub mod Refusals
 pub mod Short

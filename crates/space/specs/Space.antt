@@ -1,7 +1,7 @@
 -- Points in space, exact: the sums, products and the determinant of which document 01 speaks in checks 04 to 06 and of the six-volume.
 use Prim.Native.Nat.{ℕ}
 use mathlib.Core.Bool.{Bool, _&&_}
-use mathlib.Core.List.{List, [], _∷_, map}
+use mathlib.Core.List.{List, map}
 use lib.ListN.{getD}
 use lib.IntN.{ℤ, pos, _+ℤ_, _-ℤ_, _*ℤ_}
 use Rattle.whole.specs.Lists.{sameZ}

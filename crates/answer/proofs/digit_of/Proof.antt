@@ -1,5 +1,4 @@
 -- `digit_of` meets its contract: 7 more from 10 on.
-use native.Mathlib.Omega.{arith}
 use Rattle.hex.specs.laws.Digits.{digit-by}
 use borrow.Author.Needs.{needs}
 use Rattle.answer.proofs.digit_of.Statement.{statement}

@@ -1,53 +1,20 @@
--- `boxes::off` meets its contract. The formula is quoted.
-use mathlib.Core.List.{List, [], _∷_}
+-- `boxes::off` meets its contract: the side is that of the definition.
+use mathlib.Core.Path.{_∙_}
 use mir.Syntax.{w64}
-use Rattle.whole.specs.laws.Mach.{Leaf, whole, asks, yields}
-use Rattle.whole.specs.laws.Solve.{v, _⊖_, _⊗_}
+use borrow.Author.Needs.{needs}
+use Rattle.whole.specs.laws.Size.{call-is}
 use Rattle.plane.specs.Plane.{side}
-use Rattle.plane.specs.laws.Numbers.{ends}
+use Rattle.plane.specs.laws.Numbers.{spot-back}
 use Rattle.boxes.proofs.off.Statement.{statement}
 use Rattle.boxes.proofs.off.Tie as tie
 
--- the numbers of the edge and of the place
-abbrev leaves : tie.After-struct-told4 → List Leaf
-leaves c =
-    let h = c .before .before .before .before .pre in
-    ends (h .0) (whole w64 tt (h .1 .on-u) ∷ whole w64 tt (h .1 .on-v) ∷ [])
-
-sub-result : tie.Need-sub-result
-sub-result c = asks w64 (leaves c) (v 2 ⊖ v 0) tt
-
-sub-result-2 : tie.Need-sub-result-2
-sub-result-2 c = asks w64 (leaves c) (v 5 ⊖ v 1) tt
-
-mul-result : tie.Need-mul-result
-mul-result c = asks w64 (leaves c) ((v 2 ⊖ v 0) ⊗ (v 5 ⊖ v 1)) tt
-
-sub-result-3 : tie.Need-sub-result-3
-sub-result-3 c = asks w64 (leaves c) (v 3 ⊖ v 1) tt
-
-sub-result-4 : tie.Need-sub-result-4
-sub-result-4 c = asks w64 (leaves c) (v 4 ⊖ v 0) tt
-
-mul-result-2 : tie.Need-mul-result-2
-mul-result-2 c = asks w64 (leaves c) ((v 3 ⊖ v 1) ⊗ (v 4 ⊖ v 0)) tt
-
-sub-result-5 : tie.Need-sub-result-5
-sub-result-5 c = asks w64 (leaves c) ((v 2 ⊖ v 0) ⊗ (v 5 ⊖ v 1) ⊖ (v 3 ⊖ v 1) ⊗ (v 4 ⊖ v 0)) tt
+side-requires : tie.Need-side-requires
+side-requires c κs = search needs
 
 returns : tie.Need-returns
-unfolding side
-returns c = yields w64 (leaves c) ((v 2 ⊖ v 0) ⊗ (v 5 ⊖ v 1) ⊖ (v 3 ⊖ v 1) ⊗ (v 4 ⊖ v 0)) tt
+returns c =
+    let h = c .before .before .before .before .before .pre in
+    call-is w64 (c .side .ok) (c .side .ensures ∙ (λ j. side (spot-back _ (h .0 .from) j) (spot-back _ (h .0 .to) j) (spot-back _ (h .1) j)))
 
 pub off-spec : {M : Type 1} → statement M
-off-spec =
-    tie.close
-    (tie.spec
-    sub-result
-    sub-result-2
-    mul-result
-    sub-result-3
-    sub-result-4
-    mul-result-2
-    sub-result-5
-    returns)
+off-spec = tie.close (tie.spec side-requires returns)

@@ -1,7 +1,7 @@
 -- `four_of` meets its contract: what its steps give is the number of the digits.
 use native.Mathlib.Omega.{arith}
 use Prim.Native.Nat.{_+_, _*_, _/_}
-use lib.Bits.{bitAnd, and-le-r}
+use lib.Bits.{and-le-r}
 use Rattle.fields.specs.laws.Lanes.{valued, joined-4, values-few-4, number-of-4}
 use borrow.Author.Needs.{needs}
 use Rattle.fields.proofs.four_of.Statement.{statement}

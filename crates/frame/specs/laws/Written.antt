@@ -1,7 +1,7 @@
 -- Frames written as bytes: no line feed stands in a frame or an answer, so a stream of them splits into them again.
 use Prim.Native.Nat.{ℕ}
 use mathlib.Core.Path.{_≡_, sym, ap, _∙_}
-use mathlib.Core.Bool.{true, false, true≢false}
+use mathlib.Core.Bool.{true, true≢false}
 use mathlib.Core.List.{List, [], _∷_, map}
 use Rattle.whole.specs.All.{All, none, more}
 use Rattle.hex.specs.Hex.{isHex, allHex}

@@ -1,8 +1,7 @@
 -- `sixteen_hex` meets its contract. The invariant: `good` tells whether the bytes passed are digits.
 use Prim.Native.Nat.{_-_, _≤_}
 use native.Mathlib.Omega.{arith}
-use mathlib.Core.Path.{_≡_, refl, ap, _∙_}
-use mathlib.Core.Bool.{_&&_}
+use mathlib.Core.Path.{_≡_}
 use borrow.Author.Needs.{needs}
 use lib.ListN.{take, drop}
 use Rattle.hex.specs.Hex.{allHex}

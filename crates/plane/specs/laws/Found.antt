@@ -1,14 +1,13 @@
 -- Two segments that are found to share a point have one in common: the case that they are not on one line.
-use Prim.Native.Nat.{ℕ, zero, suc, _+_, _*_, _≤_, _<_}
+use Prim.Native.Nat.{ℕ, zero, suc, _+_, _*_, _<_}
 use native.Mathlib.Omega.{arith}
-use mathlib.Core.Path.{_≡_, refl, sym, ap, ap₂, _∙_, subst}
-use mathlib.Core.Bool.{Bool, true, false, not, _&&_, _||_, true≢false, false≢true}
+use mathlib.Core.Path.{_≡_, refl, sym, ap, ap₂, _∙_}
+use mathlib.Core.Bool.{false, not, true≢false}
 use mathlib.Core.Logic.{_⊎_, inl, inr}
-use borrow.Author.Tests.{lt-ltb, le-ltb, not-true}
+use borrow.Author.Tests.{lt-ltb}
 use lib.IntN.{ℤ, pos, negsuc, negℤ, natAbs, _+ℤ_, _-ℤ_, _*ℤ_}
-use lib.Signed.{ltZ}
-use Rattle.whole.specs.laws.Solve.{E, k, _⊕_, _⊖_, _⊗_, ⊝_, ring, _≔_}
-use Rattle.plane.specs.Plane.{Spot, Segment, side, sameSign, share}
+use Rattle.whole.specs.laws.Solve.{k, _⊕_, _⊖_, _⊗_, ⊝_, ring, _≔_}
+use Rattle.plane.specs.Plane.{Segment, side, sameSign, share}
 use Rattle.plane.specs.laws.Meet.{Meet}
 
 -- x is at or above 0 and y at or below it

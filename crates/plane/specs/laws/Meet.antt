@@ -1,18 +1,18 @@
 -- Two segments that have a point in common are found to share one.
-use Prim.Native.Nat.{ℕ, zero, suc, _+_, _*_, _-_, _≤_, _<_}
+use Prim.Native.Nat.{ℕ, zero, suc, _+_, _*_, _-_, _<_}
 use native.Mathlib.Omega.{arith}
-use native.Mathlib.Nat.{mul-suc, zero-mul, mul-zero}
-use mathlib.Core.Path.{_≡_, refl, sym, ap, ap₂, _∙_, subst}
-use mathlib.Core.Bool.{Bool, true, false, not, _&&_, _||_, true≢false, false≢true}
-use borrow.Author.Tests.{lt-ltb, le-ltb, ltb-true}
-use lib.Dec.{T, ltb}
-use lib.IntN.{ℤ, pos, negsuc, negℤ, natAbs, _+ℤ_, _-ℤ_, _*ℤ_, pos-*ℤ-pos, pos-+ℤ-pos, *ℤ-zero, +ℤ-idl, +ℤ-idr}
-use lib.Signed.{ltZ, _<ℤ_, ltZ-yes}
-use mathlib.Core.List.{List, [], _∷_}
+use native.Mathlib.Nat.{mul-suc}
+use mathlib.Core.Path.{_≡_, refl, sym, ap, _∙_, subst}
+use mathlib.Core.Bool.{Bool, true, false, not, _&&_}
+use borrow.Author.Tests.{lt-ltb, le-ltb}
+use lib.Dec.{T}
+use lib.IntN.{ℤ, pos, negsuc, negℤ, natAbs, _+ℤ_, _-ℤ_, _*ℤ_}
+use lib.Signed.{ltZ, ltZ-yes}
+use mathlib.Core.List.{[], _∷_}
 use Rattle.whole.specs.laws.Bools.{and-left, and-right}
-use Rattle.whole.specs.laws.Solve.{E, v, k, _⊕_, _⊖_, _⊗_, ⊝_, ring, _≔_}
+use Rattle.whole.specs.laws.Solve.{v, k, _⊕_, _⊖_, _⊗_, ⊝_, ring, _≔_}
 use Rattle.whole.specs.laws.Order.{P, N, lt-of, eq-by}
-use Rattle.plane.specs.Plane.{Spot, Segment, side, sameSign, under, overlap, share}
+use Rattle.plane.specs.Plane.{Segment, side, sameSign, under, overlap, share}
 
 -- a point in common: it divides e in the ratio s to s′, and f in the ratio t to t′
 pub record Meet (e f : Segment) : Type 0 where

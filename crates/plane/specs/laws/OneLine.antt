@@ -2,18 +2,17 @@
 use Prim.Native.Nat.{ℕ, zero, suc, _+_, _*_, _-_, _≤_, _<_}
 use native.Mathlib.Omega.{arith}
 use native.Mathlib.Nat.{add-comm}
-use mathlib.Core.Path.{_≡_, refl, sym, ap, ap₂, _∙_, subst}
-use mathlib.Core.Bool.{Bool, true, false, not, _&&_, _||_, true≢false, false≢true}
+use mathlib.Core.Path.{_≡_, refl, sym, ap, _∙_, subst}
+use mathlib.Core.Bool.{Bool, true, false, not, true≢false}
 use mathlib.Core.Logic.{_⊎_, inl, inr}
-use mathlib.Core.List.{List, [], _∷_}
-use borrow.Author.Tests.{not-true}
+use mathlib.Core.List.{[], _∷_}
 use lib.Dec.{T}
-use lib.IntN.{ℤ, pos, negsuc, negℤ, natAbs, _+ℤ_, _-ℤ_, _*ℤ_, +ℤ-comm, +ℤ-idr, zero-*ℤ}
+use lib.IntN.{ℤ, pos, negsuc, negℤ, _+ℤ_, _-ℤ_, _*ℤ_, +ℤ-comm, +ℤ-idr}
 use lib.Signed.{ltZ, ltZ-no}
-use Rattle.whole.specs.laws.Solve.{E, v, k, _⊕_, _⊖_, _⊗_, ⊝_, ring, _≔_}
+use Rattle.whole.specs.laws.Solve.{v, k, _⊕_, _⊖_, _⊗_, ⊝_, ring, _≔_}
 use Rattle.whole.specs.laws.Ring.{combine}
 use Rattle.whole.specs.laws.Order.{P, N, le-of, eq-by}
-use Rattle.plane.specs.Plane.{Spot, Segment, side, sameSign, under, overlap, share}
+use Rattle.plane.specs.Plane.{Spot, Segment, side, under, overlap}
 use Rattle.plane.specs.laws.PlaneTurn.{side-back}
 use Rattle.whole.specs.laws.Bools.{and-left, and-right}
 use Rattle.plane.specs.laws.Meet.{Meet, differs, turned}

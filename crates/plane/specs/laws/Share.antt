@@ -1,12 +1,12 @@
 -- The test of Plane is what document 01 says: two segments share a point.
-use Prim.Native.Nat.{ℕ, zero, suc, _+_, _≤_, _<_}
+use Prim.Native.Nat.{ℕ, zero, suc, _+_}
 use native.Mathlib.Omega.{arith}
 use mathlib.Core.Path.{_≡_, refl, sym, ap, ap₂, _∙_, subst}
-use mathlib.Core.Bool.{Bool, true, false, not, _&&_, true≢false}
+use mathlib.Core.Bool.{true, false, not, _&&_, true≢false}
 use borrow.Author.Tests.{lt-ltb, not-true}
 use lib.IntN.{ℤ, pos, negsuc, natAbs, _-ℤ_}
 use Rattle.whole.specs.laws.Ring.{sub-zero-eq}
-use Rattle.plane.specs.Plane.{Spot, Segment, side, sameSign, overlap, share}
+use Rattle.plane.specs.Plane.{Segment, sameSign, overlap, share}
 use Rattle.whole.specs.laws.Bools.{and-left, and-right}
 use Rattle.plane.specs.laws.Meet.{Meet, meet-share}
 use Rattle.plane.specs.laws.Found.{a, b, c, d, balance, found-meet}

@@ -1,18 +1,16 @@
 -- A move touches only the polygons that list the point.
-use Prim.Native.Nat.{ℕ, zero, suc}
-use mathlib.Core.Path.{_≡_, refl, sym, ap, ap₂, _∙_}
-use mathlib.Core.Bool.{Bool, true, false}
-use mathlib.Core.List.{List, [], _∷_, map}
+use Prim.Native.Nat.{ℕ}
+use mathlib.Core.Path.{_≡_, refl, sym, ap₂}
+use mathlib.Core.Bool.{false}
+use mathlib.Core.List.{List, [], _∷_}
 use borrow.Author.Tests.{eqb-false}
 use lib.Dec.{eqb}
-use lib.ListN.{getD, set}
+use lib.ListN.{set}
 use lib.Seq.{getD-set-other}
-use lib.IntN.{ℤ}
 use Rattle.whole.specs.Lists.{lists}
 use Rattle.whole.specs.All.{All, none, more}
 use Rattle.whole.specs.laws.Alls.{any-none}
 use Rattle.space.specs.Space.{Point, origin, places}
-use Rattle.polygon.specs.declared.Finding.{Finding}
 use Rattle.polygon.specs.Ring.{finding}
 use Rattle.volume.specs.Part.{part}
 

@@ -8,7 +8,8 @@ use mathlib.Core.List.{List, [], _∷_}
 use borrow.Author.Tests.{ltb-false, eqb-true, eq-eqb}
 use lib.Dec.{eqb, ltb}
 use lib.ListN.{length, getD}
-use Rattle.whole.specs.Lists.{any, anyTwo, front, lastOf}
+use Rattle.whole.specs.Lists.{anyTwo, front, lastOf}
+use Rattle.whole.specs.laws.Search.{two-parts}
 use Rattle.shell.specs.laws.Closure.{in-any}
 use Rattle.edges.specs.laws.Tallies.{place-in}
 use Rattle.shell.specs.held.Kept.{Sound}
@@ -29,20 +30,12 @@ front-at a [] i h = absurd (not-suc-le-zero h)
 front-at a (b ∷ l) zero h = refl
 front-at a (b ∷ l) (suc i) h = front-at b l i (le-of-suc-le-suc h)
 
-two-of : (x : ℕ) (m : List ℕ) → anyTwo eqb (x ∷ m) ≡ false → (any (eqb x) m ≡ false) × (anyTwo eqb m ≡ false)
-unfolding anyTwo
-two-of x m h = go (any (eqb x) m) refl h
-  where
-    go : (b : Bool) → any (eqb x) m ≡ b → elim b as (λ _. Bool) [ true ↦ true | false ↦ anyTwo eqb m ] ≡ false → (any (eqb x) m ≡ false) × (anyTwo eqb m ≡ false)
-    go true e h = absurd (true≢false h)
-    go false e h = (e, h)
-
 no-two : (m : List ℕ) → anyTwo eqb m ≡ false → (i j : ℕ) → i < j → j < length m → getD m i 0 ≡ getD m j 0 → ⊥
 no-two [] h i j a b e = not-suc-le-zero b
 no-two (x ∷ m) h zero zero a b e = not-suc-le-zero a
-no-two (x ∷ m) h zero (suc j) a b e = true≢false (sym (in-any (eqb x) (getD m j 0) m (place-in m j (le-of-suc-le-suc b)) (eq-eqb x (getD m j 0) e)) ∙ two-of x m h .0)
+no-two (x ∷ m) h zero (suc j) a b e = true≢false (sym (in-any (eqb x) (getD m j 0) m (place-in m j (le-of-suc-le-suc b)) (eq-eqb x (getD m j 0) e)) ∙ two-parts eqb x m h .0)
 no-two (x ∷ m) h (suc i) zero a b e = not-suc-le-zero a
-no-two (x ∷ m) h (suc i) (suc j) a b e = no-two m (two-of x m h .1) i j (le-of-suc-le-suc a) (le-of-suc-le-suc b) e
+no-two (x ∷ m) h (suc i) (suc j) a b e = no-two m (two-parts eqb x m h .1) i j (le-of-suc-le-suc a) (le-of-suc-le-suc b) e
 
 pub sound-ring : (a : ℕ) (l : List ℕ) → ltb (length (a ∷ l)) 4 ≡ false → eqb a (lastOf a l) ≡ true → anyTwo eqb (front (a ∷ l)) ≡ false → Sound (a ∷ l)
 sound-ring a l short closed twice = record {

@@ -10,7 +10,6 @@ use Rattle.building.specs.declared.Verdict.{Verdict}
 use Rattle.building.specs.Tables.{Tables}
 use Rattle.building.specs.Report.{verdict, report, sixVolume, checkNumber, elementA, elementB}
 use Rattle.service.specs.Service.{reportOf}
-use Rattle.building.specs.held.Holds as B
 
 -- the report's fields, from the kept values
 pub wrote-report : (t : Tables) (v : Verdict) (k x y f : ℕ) (z : ℤ) → v ≡ verdict t → k ≡ checkNumber v → x ≡ elementA v → y ≡ elementB v → f ≡ report t .faults → z ≡ sixVolume t

@@ -1,7 +1,6 @@
 -- `totals::faults_in` meets its contract. The loop keeps: the count, with the tally of what is left, is the whole tally.
 use Prim.Native.Nat.{_-_}
 use mathlib.Core.Logic.{⊎-elim}
-use native.Mathlib.Omega.{arith}
 use lib.ListN.{length}
 use borrow.Author.Needs.{needs}
 use Rattle.totals.specs.laws.Scans.{Counted, counted-none, counted-skip, counted-more, counted-done}

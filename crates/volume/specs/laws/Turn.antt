@@ -1,14 +1,14 @@
 -- Turning a closed ring negates its part, and never changes a finding.
-use Prim.Native.Nat.{ℕ, zero, suc}
-use mathlib.Core.Path.{_≡_, refl, sym, ap, ap₂, _∙_, subst}
-use mathlib.Core.Bool.{Bool, true, false, not}
-use mathlib.Core.List.{List, [], _∷_, _++_, map, reverse, reverseAux}
+use Prim.Native.Nat.{ℕ}
+use mathlib.Core.Path.{_≡_, refl, sym, ap, _∙_}
+use mathlib.Core.Bool.{false}
+use mathlib.Core.List.{List, [], _∷_, map, reverse, reverseAux}
 use borrow.Author.Tests.{not-false, eqb-true}
 use lib.Dec.{eqb}
 use lib.ListN.{getD}
-use lib.IntN.{ℤ, pos, negsuc, negℤ, _+ℤ_, _-ℤ_, _*ℤ_, +ℤ-idr, +ℤ-idl}
+use lib.IntN.{ℤ, negℤ, _+ℤ_, _-ℤ_, _*ℤ_, +ℤ-idr, +ℤ-idl}
 use Rattle.whole.specs.laws.Reverse.{map-reverseAux}
-use Rattle.whole.specs.laws.Solve.{E, v, k, _⊕_, _⊖_, _⊗_, ⊝_, ring, _≔_}
+use Rattle.whole.specs.laws.Solve.{_⊕_, _⊖_, _⊗_, ⊝_, ring, _≔_}
 use Rattle.whole.specs.Lists.{steps, stepsFrom, sumOf, lastOf}
 use Rattle.space.specs.Space.{Point, origin, determinant, places}
 use Rattle.ring.specs.Entries.{isUnclosed}

@@ -10,6 +10,7 @@ use lib.Dec.{eqb}
 use lib.ListN.{length, getD, take}
 use Rattle.whole.specs.Lists.{given, first, any, anyTwo}
 use Rattle.whole.specs.All.{All, none, more}
+use Rattle.whole.specs.laws.Search.{any-parts, two-parts}
 
 module _ {A : Type 0} where
   -- each row is its test's value, and its answer
@@ -127,22 +128,6 @@ module _ {A : Type 0} where
     abbrev pub numbersOf : List (Bool × A) → List ℕ
     numbersOf l = map (λ r. f (r .1)) l
 
-    any-parts : (t : ℕ → Bool) (x : ℕ) (l : List ℕ) → any t (x ∷ l) ≡ false → (t x ≡ false) × (any t l ≡ false)
-    unfolding any
-    any-parts t x l e = go (t x) refl e
-      where
-        go : (b : Bool) → t x ≡ b → elim b [ true ↦ true | false ↦ any t l ] ≡ false → (t x ≡ false) × (any t l ≡ false)
-        go true z e = absurd (true≢false e)
-        go false z e = (z, e)
-
-    two-parts : (x : ℕ) (l : List ℕ) → anyTwo eqb (x ∷ l) ≡ false → (any (eqb x) l ≡ false) × (anyTwo eqb l ≡ false)
-    unfolding anyTwo
-    two-parts x l e = go (any (eqb x) l) refl e
-      where
-        go : (b : Bool) → any (eqb x) l ≡ b → elim b [ true ↦ true | false ↦ anyTwo eqb l ] ≡ false → (any (eqb x) l ≡ false) × (anyTwo eqb l ≡ false)
-        go true z e = absurd (true≢false e)
-        go false z e = (z, e)
-
     elsewhere-of : (b : A) (l : List (Bool × A)) → any (eqb (f b)) (numbersOf l) ≡ false → Elsewhere b l
     elsewhere-of b [] e = none
     elsewhere-of b (r ∷ l) e = let p = any-parts (eqb (f b)) (f (r .1)) (numbersOf l) e in more (λ z. eqb-false (f b) (f (r .1)) (p .0) (ap f (sym z))) (elsewhere-of b l (p .1))
@@ -151,5 +136,5 @@ module _ {A : Type 0} where
     distinct-of a [] e q = alone
     distinct-of a (r ∷ l) e q =
         let p = any-parts (eqb (f a)) (f (r .1)) (numbersOf l) e in
-        let t = two-parts (f (r .1)) (numbersOf l) q in
+        let t = two-parts eqb (f (r .1)) (numbersOf l) q in
         apart (λ z. eqb-false (f a) (f (r .1)) (p .0) (ap f z)) (elsewhere-of (r .1) l (t .0)) (distinct-of a l (p .1) (t .1))

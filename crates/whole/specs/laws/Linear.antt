@@ -1,7 +1,7 @@
 -- A claim on ℤ, quoted, is the same claim on the parts of its numbers, which omega proves:
 -- `lin 2 (λ a b. a ≺ b ⇒ a ⊕ k (pos 1) ≼ b) (λ a b. omega arith) : (a b : ℤ) → a <ℤ b → (a +ℤ pos 1) ≤ℤ b`.
 use mathlib.Core.Path.{_≡_}
-use mathlib.Core.List.{List, [], _∷_}
+use mathlib.Core.List.{List, []}
 use Prim.Native.Nat.{ℕ, zero, suc, _+_, _≤_, _<_}
 use lib.IntN.{ℤ}
 use lib.Signed.{_≤ℤ_, _<ℤ_}

@@ -1,13 +1,13 @@
 -- The size of an integer, `natAbs z`, which omega reads as an unknown: of a sum, a difference, a product, a negation.
-use mathlib.Core.Path.{_≡_, refl, sym, _∙_, ap, ap₂, subst}
+use mathlib.Core.Path.{_≡_, refl, sym, _∙_, subst}
 use mathlib.Core.Bool.{Bool, true, false, not, cond}
 use Prim.Native.Nat.{ℕ, zero, suc, _+_, _*_, _-_, _≤_, _<_, _^_, zero-le}
-use native.Mathlib.Nat.{mul-comm, le-refl, le-trans, add-le-add, mul-le-mul, lt-of-le-of-lt, le-of-eq}
+use native.Mathlib.Nat.{le-refl, le-trans, add-le-add, mul-le-mul, lt-of-le-of-lt, le-of-eq}
 use native.Mathlib.Omega.{arith}
-use lib.Dec.{T, ltb, leb, ltb→lt, nltb→le}
+use lib.Dec.{T, ltb, leb, ltb→lt}
 use lib.IntN.{ℤ, pos, negsuc, negℤ, natAbs, subℕ, _+ℤ_, _-ℤ_, _*ℤ_}
 use lib.Signed.{mag, natAbs-le}
-use mir.Syntax.{Width, w64, w32}
+use mir.Syntax.{Width, w64}
 use mir.Val.{SFits, hbits, ofZ, toZ}
 use mir.Facts.{toZ-ofZ, sfits-widen}
 use Rattle.whole.specs.held.Small.{Small}

@@ -1,13 +1,13 @@
 -- A ring solver by reflection. An expression over variables is normalised to a sum of monomials by computation, and two
 -- expressions whose difference normalises to 0 have equal values at every ℤ.
-use mathlib.Core.Path.{_≡_, refl, sym, _∙_, ap, ap₂, subst}
+use mathlib.Core.Path.{_≡_, refl, sym, _∙_, ap, ap₂}
 use mathlib.Core.Bool.{Bool, true, false}
 use mathlib.Core.List.{List, [], _∷_}
 use Prim.Native.Nat.{ℕ, zero, suc, compare, Ordering, Ordering·lt, Ordering·eq, Ordering·gt}
 use lib.Dec.{T, leb, eqb, eqb→eq, isEq}
 use lib.ListN.{getD}
-use lib.IntN.{ℤ, pos, negsuc, negℤ, _+ℤ_, _-ℤ_, _*ℤ_, +ℤ-assoc, +ℤ-comm, +ℤ-idl, +ℤ-idr, zero-*ℤ, *ℤ-zero, *ℤ-comm, *ℤ-one, negℤ-+ℤ, negℤ-negℤ}
-use Rattle.whole.specs.laws.Ring.{+ℤ-swap-l, +ℤ-four, *ℤ-dist-r, *ℤ-dist-l, neg-*ℤ, *ℤ-neg, *ℤ-assoc, *ℤ-swap-l, *ℤ-four, one-*ℤ, sub-zero-eq}
+use lib.IntN.{ℤ, pos, negsuc, negℤ, _+ℤ_, _-ℤ_, _*ℤ_, +ℤ-assoc, +ℤ-comm, +ℤ-idl, +ℤ-idr, zero-*ℤ, *ℤ-zero, *ℤ-comm, negℤ-+ℤ}
+use Rattle.whole.specs.laws.Ring.{+ℤ-swap-l, *ℤ-dist-r, *ℤ-dist-l, neg-*ℤ, *ℤ-assoc, *ℤ-swap-l, *ℤ-four, one-*ℤ, sub-zero-eq}
 
 -- ---- expressions
 infixl 6 _⊕_ _⊖_
