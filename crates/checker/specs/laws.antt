@@ -1,2 +1,2 @@
 -- What is proved of the definitions.
-pub mod Loop
+pub mod Entry

@@ -1,7 +1,7 @@
 -- A table of rows, each a test with its answer: a row's answer is given exactly when its test holds and no earlier one does.
 use Prim.Native.Nat.{ℕ, zero, suc, _<_}
 use mathlib.Core.Path.{_≡_, refl, sym, ap, _∙_}
-use mathlib.Core.Bool.{Bool, true, false, true≢false}
+use mathlib.Core.Bool.{Bool, true, false}
 use mathlib.Core.List.{List, [], _∷_, _++_, map}
 use mathlib.Core.Option.{Option}
 use native.Mathlib.Omega.{arith}

@@ -1,9 +1,9 @@
--- `checker::fresh_table` meets its contract.
-use Rattle.checker.specs.laws.Loop.{all-alike}
+-- `replies::fresh_table` meets its contract.
+use Rattle.replies.specs.laws.Loop.{all-alike}
 use lib.ListN.{length-replicate}
 use Prim.Native.Nat.{ℕ}
-use Rattle.checker.proofs.fresh_table.Statement.{statement}
-use Rattle.checker.proofs.fresh_table.Tie as tie
+use Rattle.replies.proofs.fresh_table.Statement.{statement}
+use Rattle.replies.proofs.fresh_table.Tie as tie
 
 returns : tie.Need-returns
 returns c = (length-replicate {A = ℕ} 1024 0, all-alike 0 1024)

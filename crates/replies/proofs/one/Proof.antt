@@ -1,7 +1,7 @@
--- `checker::one` meets its contract.
+-- `replies::one` meets its contract.
 use mir.Syntax.{w64}
 use Rattle.desk.specs.laws.Dids.{did-refused}
-use Rattle.checker.specs.laws.Loop.{did-step}
+use Rattle.replies.specs.laws.Loop.{did-step}
 use Rattle.desk.specs.held.Holds.{service}
 use Rattle.service.specs.laws.Handlers.{of-broken}
 use Rattle.service.specs.Service.{isAccepted}
@@ -16,8 +16,8 @@ use mir.Facts.{toZ-ofZ}
 use Rattle.building.specs.held.Holds.{Arrays, arrays}
 use mathlib.Core.Path.{_≡_, refl, sym, ap, _∙_}
 use borrow.Author.Needs.{needs}
-use Rattle.checker.proofs.one.Statement.{statement}
-use Rattle.checker.proofs.one.Tie as tie
+use Rattle.replies.proofs.one.Statement.{statement}
+use Rattle.replies.proofs.one.Tie as tie
 
 decode-requires : tie.Need-decode-requires
 decode-requires c κs = search needs

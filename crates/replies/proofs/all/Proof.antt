@@ -1,13 +1,13 @@
--- `checker::all` meets its contract.
-use Rattle.checker.specs.laws.Loop.{running-idle, running-turn, running-end, room-left, valid-idle, Running}
+-- `replies::all` meets its contract.
+use Rattle.replies.specs.laws.Loop.{running-idle, running-turn, running-end, room-left, valid-idle, Running}
 use Rattle.building.specs.held.Holds.{arrays}
 use Rattle.lines.specs.laws.LineLaws.{end-above, end-inside}
 use borrow.Author.Needs.{needs}
 use lib.ListN.{length}
 use native.Mathlib.Omega.{arith}
 use Prim.Native.Nat.{_+_, _-_}
-use Rattle.checker.proofs.all.Statement.{statement}
-use Rattle.checker.proofs.all.Tie as tie
+use Rattle.replies.proofs.all.Statement.{statement}
+use Rattle.replies.proofs.all.Tie as tie
 
 abbrev Inv-loop : tie.InvT-loop
 Inv-loop stream room₀ points₀ entries₀ starts₀ stamps₀ findings₀ parts₀ table₀ turned₀ d₀ from₀ room points entries starts stamps findings parts table turned d from =
