@@ -25,7 +25,8 @@ use Rattle.polygon.specs.laws.Triangle.{differ}
 use Rattle.fan.specs.held.Fan.{every, fans, isFan}
 use Rattle.polygon.specs.laws.Fan.{some-at, next-apart, last-apart, other-apart}
 use Rattle.crossing.specs.laws.Pairs.{clash-next, clash-last, clash-other}
-use Rattle.ring.specs.laws.Rings.{front-is, closed-is}
+use Rattle.whole.specs.laws.Front.{front-is}
+use Rattle.ring.specs.laws.Rings.{closed-is}
 
 -- ---- lists of which no two are related
 module _ {A : Type 0} where

@@ -50,7 +50,7 @@ fn third_on(points: &[i32; 1536], ring: &[u16], tolerance: u16, n: Place) -> Fin
     requires { ⌜ asPoint n ≡ normal (places (pointsOf (now points)) (now ring)) ⌝ }
     ensures { λ r. ⌜ r ≡ finding tolerance (pointsOf (now (points .entry))) (now (ring .entry)) ⌝ }
 {
-    if ring::is_repeated(ring) {
+    if marks::is_repeated(ring) {
         return Finding::Repeated;
     }
     if is_zero(n) {

@@ -1,3 +1,4 @@
 -- What is proved of the definitions.
 pub mod Agree
 pub mod Rings
+pub mod Repeated

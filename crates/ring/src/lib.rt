@@ -1,11 +1,8 @@
-// A ring as the numbers of its points: whether it lists one, and checks 02 and 03.
+// A ring as the numbers of its points: whether it lists one, and check 02. Check 03 is in crate marks.
 ghost use mathlib.Core.Path.{_≡_};
-ghost use Prim.Native.Nat.{_≤_};
-ghost use lib.ListN.{length};
-ghost use Rattle.ring.specs.Entries.{isUnclosed, isRepeated};
+ghost use Rattle.ring.specs.Entries.{isUnclosed};
 ghost use mathlib.Core.Bool.{not};
-ghost use lib.Dec.{eqb};
-ghost use Rattle.whole.specs.Lists.{lists, anyTwo};
+ghost use Rattle.whole.specs.Lists.{lists};
 
 // Whether the ring lists point n: no step of this branches, so that many entries are held against it at a time.
 pub fn lists(ring: &[u16], n: u16) -> bool
@@ -29,30 +26,4 @@ pub fn is_closed(ring: &[u16]) -> bool
         return true;
     }
     ring[0] == ring[n - 1]
-}
-
-// Whether some number stands twice in a list.
-fn stands_twice(list: &[u16]) -> bool
-    ensures { λ r. ⌜ r ≡ anyTwo eqb (now (list .entry)) ⌝ }
-{
-    let n = list.len();
-    let mut i: usize = 0;
-    while i < n {
-        let next = i + 1;
-        let x = list[i];
-        if lists(&list[next..], x) {
-            return true;
-        }
-        i = next;
-    }
-    false
-}
-
-// 03: "with the last entry left aside, some number stands twice"
-pub fn is_repeated(ring: &[u16]) -> bool
-    requires { ⌜ 1 ≤ length (now ring) ⌝ }
-    ensures { λ r. ⌜ r ≡ isRepeated (now (ring .entry)) ⌝ }
-{
-    let last = ring.len() - 1;
-    stands_twice(&ring[..last])
 }

@@ -1,4 +1,4 @@
--- What several definitions say of lists: the first row given, some, how many, one after the other.
+-- What several definitions say of lists: the first row given, some, how many, the least index, one after the other.
 use Prim.Native.Nat.{ℕ, zero, suc, _+_, min}
 use mathlib.Core.Bool.{Bool, true, false}
 use mathlib.Core.List.{List, [], _∷_, _++_}
@@ -28,6 +28,11 @@ module _ {A : Type 0} where
   unfoldable pub any : (A → Bool) → List A → Bool
   any t [] = false
   any t (x ∷ l) = elim (t x) [ true ↦ true | false ↦ any t l ]
+
+  -- the least index, counted from 0, of one of a list that a test holds of; where there is none, the list's length
+  unfoldable pub leastIndex : (A → Bool) → List A → ℕ
+  leastIndex t [] = 0
+  leastIndex t (x ∷ l) = elim (t x) [ true ↦ 0 | false ↦ suc (leastIndex t l) ]
 
   -- how many of a list a test holds of
   unfoldable pub tally : (A → Bool) → List A → ℕ
@@ -107,5 +112,5 @@ sameZ (negsuc a) (negsuc b) = eqb a b
 
 -- all of the above computes
 unfoldable pub lists-compute : Unit {0}
-unfolding given firstGiven first any tally keep anyTwo stepsFrom steps front lastOf at tab numberedFrom numbered sumOf lists least sameZ
+unfolding given firstGiven first any leastIndex tally keep anyTwo stepsFrom steps front lastOf at tab numberedFrom numbered sumOf lists least sameZ
 lists-compute = tt

@@ -1,3 +1,4 @@
 -- How the code's arrays and numbers stand for what the definitions say.
 pub mod Small
 pub mod Stored
+pub mod Least

@@ -2,12 +2,16 @@
 pub mod Agree
 pub mod Bools
 pub mod First
+pub mod Least
 pub mod Linear
 pub mod Mach
 pub mod Order
 pub mod Places
 pub mod Reverse
 pub mod Ring
+pub mod Same
+pub mod Front
+pub mod Index
 pub mod Search
 pub mod Size
 pub mod Solve

@@ -3,6 +3,7 @@
 use crate::distance::{self, Twice};
 use crate::faults::{pinch, ring_fault, shape_fault};
 use crate::prng::Dice;
+use crate::repeats;
 use crate::script::Script;
 use crate::solids::{self, closed, Solid, P};
 use oracle::ring::fails_06;
@@ -23,6 +24,7 @@ pub const FAMILIES: &[Family] = &[
     Family { name: "two solids", share: 3, write: two_solids },
     Family { name: "few polygons", share: 2, write: few_polygons },
     Family { name: "rings on a small grid", share: 4, write: grid_rings },
+    Family { name: "rings of repeated numbers", share: 1, write: repeats::stream },
     Family { name: "rings off their plane", share: 3, write: off_plane },
     Family { name: "rings at the true distance", share: 2, write: true_distance },
     Family { name: "large rings at the true distance", share: 1, write: large_at_true_distance },

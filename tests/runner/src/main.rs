@@ -7,6 +7,7 @@ mod faults;
 mod prng;
 mod product;
 mod reach;
+mod repeats;
 mod script;
 mod solids;
 

@@ -1,5 +1,6 @@
 //! How often each thing was reached that the streams are meant to reach, by the oracle's account; what must be reached is listed.
 
+use crate::repeats;
 use oracle::frame::{decode, Frame};
 use oracle::held::{kind, refusals, refused_02_kind, step, State};
 use oracle::report::findings;
@@ -149,7 +150,7 @@ fn required() -> Vec<String> {
     }
     names.extend((1..=3).map(|number| format!("whole stream -{number}")));
     names.extend(["-1 before -2", "-1 before -3", "-2 before -3", "all three"].map(|name| format!("whole stream {name}")));
-    names.extend([BOUNDS, RINGS, DISTANCES, HISTORIES].concat().iter().map(|name| name.to_string()));
+    names.extend([BOUNDS, RINGS, repeats::NAMES, DISTANCES, HISTORIES].concat().iter().map(|name| name.to_string()));
     names
 }
 
@@ -320,8 +321,11 @@ impl Reach {
     /// What the rings of a fresh load show of checks 04 to 06.
     fn rings(&mut self, tables: &Tables) {
         let findings = findings(tables);
+        let mut before: &[usize] = &[];
         for (polygon, &finding) in findings.iter().enumerate() {
             let places = tables.places(polygon);
+            repeats::reached(&tables.polygons[polygon], before).into_iter().for_each(|name| self.count(name));
+            before = &tables.polygons[polygon];
             self.count_if(places.len() == 3 && ring::part(&places) != 0, "ring of 3 entries with a part");
             if finding == 0 || finding >= 5 {
                 self.ring(&places, tables.tolerance, finding);

@@ -1,23 +1,13 @@
 -- What the single steps of check 0C leave: one corner of each point, marks that spread from corner to corner, and the lowest point cut off.
-use Prim.Native.Nat.{ℕ, _/_, _≤_, _<_}
+use Prim.Native.Nat.{ℕ, _/_, _<_}
 use mathlib.Core.Path.{_≡_}
 use mathlib.Core.Logic.{_⊎_}
 use mathlib.Core.List.{List}
 use lib.ListN.{length, getD}
+use Rattle.whole.specs.held.Least.{LeastBelow}
 use Rattle.words.specs.held.Words.{stepOf, nextOf, nodeOf}
 use Rattle.reach.specs.Reach.{Reach}
 use Rattle.reach.specs.held.Marking.{Joined, Marked, Marks, Flooded}
-
--- the least number with a property
-pub record Least (P : ℕ → Type 0) (k : ℕ) : Type 0 where
-  pub holds : P k
-  pub first : (j : ℕ) → P j → k ≤ j
-
--- r is the least number with a property, or n where no number has it
-pub record LeastBelow (P : ℕ → Type 0) (n r : ℕ) : Type 0 where
-  pub within : r ≤ n
-  pub found : r < n → Least P r
-  pub missing : n ≤ r → (k : ℕ) → P k → ⊥
 
 abbrev pub Joins : ℕ → ℕ → List ℕ → ℕ → ℕ → Type 0
 Joins low high l p q = Joined l (nodeOf low) p q ⊎ Joined l (nodeOf high) p q

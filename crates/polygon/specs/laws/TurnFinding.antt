@@ -22,7 +22,7 @@ use Rattle.ring.specs.Entries.{isUnclosed, isRepeated}
 use Rattle.normal.specs.Normal.{relative, normal, isZero}
 use Rattle.crossing.specs.Crossed.{forbidden, isCrossed}
 use Rattle.even.specs.Even.{square, squares, exceeds, isUneven}
-use Rattle.space.specs.laws.Laws.{eqb-sym}
+use Rattle.whole.specs.laws.Same.{eqb-sym}
 use Rattle.volume.specs.laws.Turn.{sum-reverse, firstOf, first-reverseAux, last-map}
 use Rattle.plane.specs.laws.PlaneTurn.{zero-neg}
 use Rattle.crossing.specs.laws.CrossedTurn.{forbidden-back}

@@ -1,5 +1,5 @@
 -- `replies::fresh_table` meets its contract.
-use Rattle.replies.specs.laws.Loop.{all-alike}
+use Rattle.whole.specs.laws.Places.{all-alike}
 use lib.ListN.{length-replicate}
 use Prim.Native.Nat.{ℕ}
 use Rattle.replies.proofs.fresh_table.Statement.{statement}

@@ -1,5 +1,5 @@
 -- The loop over the lines of a stream.
-use Prim.Native.Nat.{ℕ, zero, suc, _+_, _*_, _-_, _≤_, _<_}
+use Prim.Native.Nat.{ℕ, suc, _+_, _*_, _-_, _≤_, _<_}
 use native.Mathlib.Omega.{arith}
 use mathlib.Core.Path.{_≡_, refl, sym, ap, ap₂, _∙_, subst}
 use mathlib.Core.Bool.{false≢true}
@@ -8,6 +8,7 @@ use lib.ListN.{length, take, drop, getD, replicate, length-append, length-replic
 use lib.Seq.{sets, length-sets}
 use lib.IntN.{ℤ, pos}
 use Rattle.whole.specs.held.Small.{Small}
+use Rattle.whole.specs.laws.Places.{all-alike}
 use Rattle.whole.specs.laws.Size.{small-zero}
 use Rattle.whole.specs.laws.Stores.{sets-append}
 use Rattle.lines.specs.Lines.{lines, ended}
@@ -130,11 +131,6 @@ valid-idle a c e s z k f =
     nothing-loads q = false≢true (ap loads q)
 
 -- ---- arrays of nothing but zeros
-
-pub all-alike : {A : Type 0} (x : A) (n i : ℕ) → getD (replicate n x) i x ≡ x
-all-alike x zero i = refl
-all-alike x (suc n) zero = refl
-all-alike x (suc n) (suc i) = all-alike x n i
 
 pub fresh-coords : (n : ℕ) → n ≡ 1536 → Coords (replicate n (pos 0))
 fresh-coords n e = record { room = length-replicate {A = ℤ} n (pos 0) ∙ e; small = λ i. subst (λ (z : ℤ). Small 100000 z) (sym (all-alike (pos 0) n i)) small-zero }

@@ -21,17 +21,13 @@ use Rattle.edges.specs.held.Table.{wordsTo, ascending, stepWord}
 use Rattle.shell.specs.held.Kept.{Loaded}
 use Rattle.edges.specs.laws.Tallies.{in-tally, in-place, place-in}
 use Rattle.edges.specs.laws.Ascending.{asc-ascending, tally-ascending, in-ascending, ascending-in}
-use Rattle.links.specs.held.Linking.{Least}
+use Rattle.whole.specs.laws.Least.{least-as}
 use Rattle.shell.specs.held.Runs.{LeastAt, Between}
 use Rattle.reach.specs.held.Marking.{Joined, LowestCut}
 use Rattle.shell.specs.laws.Adequate.{reach-by, edge-nil, Is, is-some, is-none, uses, once-is, often-is, apart-is, Shares, Unreached, ring-below}
 use Rattle.shell.specs.laws.Uses.{Use, words-use, use-words, step-use, use-key, use-poly, keys-all, ring-edges, in-span, span-in}
 use Rattle.shell.specs.laws.Keys.{key-at}
 use Rattle.shell.specs.laws.Pairs.{Pairs, pairs, pairs-even, pairs-same, ofEdge, tally-keys}
-
--- the least number with a property is the least with another that the same numbers have
-pub least-as : {P Q : ℕ → Type 0} {x : ℕ} → ((v : ℕ) → P v → Q v) → ((v : ℕ) → Q v → P v) → Least P x → Least Q x
-least-as {x = x} f g l = record { holds = f x (l .holds); first = λ j q. l .first j (g j q) }
 
 module _ (es st : List ℕ) (n : ℕ) (l : Loaded es st n) where
   abbrev rs : List (List ℕ)

@@ -29,7 +29,8 @@ use Rattle.shell.specs.laws.Adequate.{is-some, is-none, Around, Ends, Pi
 use Rattle.words.specs.laws.Nodes.{pick-then, pick-else}
 use Rattle.shell.specs.laws.Uses.{Use, step-use, use-key, use-poly, use-step, use-next, use-dir, ring-long, ring-within, entry-small}
 use Rattle.shell.specs.laws.Pairs.{Pairs}
-use Rattle.shell.specs.laws.Across.{least-as, rings-length, ring-is, place-use, step-place, place-edge, edge-place, pair-key, joined-key}
+use Rattle.whole.specs.laws.Least.{least-as}
+use Rattle.shell.specs.laws.Across.{rings-length, ring-is, place-use, step-place, place-edge, edge-place, pair-key, joined-key}
 use Rattle.shell.specs.laws.Fans.{Corners, linked-around, apart-around}
 
 -- the polygon whose ring stands at i: the last that starts there or before

@@ -5,9 +5,15 @@ use native.Mathlib.Decide.{decLt}
 use native.Mathlib.Numerals.{add-one}
 use mathlib.Core.Path.{_≡_, refl, sym, ap, _∙_, subst}
 use mathlib.Core.List.{List, [], _∷_, _++_, map}
-use lib.ListN.{length, getD, length-append, List·getD-append}
+use lib.ListN.{length, getD, replicate, length-append, List·getD-append}
 use lib.Seq.{getD-at}
 use Rattle.whole.specs.Lists.{tab, numberedFrom, numbered, stepsFrom, steps}
+
+-- ---- one thing n times
+pub all-alike : {A : Type 0} (x : A) (n i : ℕ) → getD (replicate n x) i x ≡ x
+all-alike x zero i = refl
+all-alike x (suc n) zero = refl
+all-alike x (suc n) (suc i) = all-alike x n i
 
 module _ {A : Type 0} where
   -- ---- f of each number below n

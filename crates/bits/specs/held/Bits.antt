@@ -1,0 +1,13 @@
+-- The marks, each 0 or 1, that the bits of words stand for.
+use Prim.Native.Nat.{ℕ, zero, suc, _/_, _%_}
+use mathlib.Core.List.{List, [], _∷_, _++_}
+
+-- the n lowest bits of a word, the lowest first
+unfoldable pub bitsOf : ℕ → ℕ → List ℕ
+bitsOf zero w = []
+bitsOf (suc n) w = w % 2 ∷ bitsOf n (w / 2)
+
+-- those of each word, one word after the other
+unfoldable pub spread : ℕ → List ℕ → List ℕ
+spread n [] = []
+spread n (w ∷ ws) = bitsOf n w ++ spread n ws

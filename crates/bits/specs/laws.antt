@@ -1,0 +1,4 @@
+-- What is proved of the definitions.
+pub mod Word
+pub mod Words
+pub mod Agree

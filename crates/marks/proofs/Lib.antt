@@ -1,0 +1,2 @@
+-- What the loop of the pass cites.
+pub mod Passed

@@ -1,0 +1,145 @@
+-- The least index of a list at which a test holds: a loop that looks for it, what it says, and two of a list that are related.
+use Prim.Native.Nat.{ℕ, zero, suc, _+_, _≤_, _<_, suc-le-suc}
+use native.Mathlib.Omega.{arith}
+use native.Mathlib.Nat.{le-of-suc-le-suc}
+use native.Mathlib.Numerals.{add-one}
+use mathlib.Core.Path.{_≡_, refl, sym, ap, ap₂, _∙_}
+use mathlib.Core.Bool.{Bool, true, false, _||_, true≢false}
+use mathlib.Core.List.{List, [], _∷_, _++_, append-assoc}
+use borrow.Author.Tests.{lt-ltb, ltb-true, ltb-false}
+use lib.Dec.{ltb, leb·suc-suc}
+use lib.ListN.{length, getD, take, drop, length-append}
+use lib.Seq.{take-append-seam}
+use Rattle.whole.specs.Lists.{any, anyTwo, leastIndex, numbered, numberedFrom}
+use Rattle.whole.specs.held.Least.{LeastBelow}
+use Rattle.whole.specs.laws.Search.{drop-next, drop-end}
+use Rattle.whole.specs.laws.Stores.{cases}
+use Rattle.whole.specs.laws.Reverse.{any-or, any-snoc, anyTwo-or}
+
+module _ {A : Type 0} (t : A → Bool) where
+  -- ---- what is left of the list tells the index, counted from where it starts
+  index-of : (x : A) (l : List A) (b : Bool) → t x ≡ b → leastIndex t (x ∷ l) ≡ elim b [ true ↦ 0 | false ↦ suc (leastIndex t l) ]
+  unfolding leastIndex
+  index-of x l b e = ap (λ (c : Bool). elim c [ true ↦ 0 | false ↦ suc (leastIndex t l) ]) e
+
+  pub index-here : (l : List A) (i : ℕ) (d : A) → i < length l → t (getD l i d) ≡ true → leastIndex t (drop i l) ≡ 0
+  index-here l i d h e = ap (leastIndex t) (drop-next l i d h) ∙ index-of (getD l i d) (drop (i + 1) l) true e
+
+  pub index-next : (l : List A) (i : ℕ) (d : A) → i < length l → t (getD l i d) ≡ false → leastIndex t (drop i l) ≡ suc (leastIndex t (drop (i + 1) l))
+  index-next l i d h e = ap (leastIndex t) (drop-next l i d h) ∙ index-of (getD l i d) (drop (i + 1) l) false e
+
+  pub index-end : (l : List A) (i : ℕ) → i ≡ length l → leastIndex t (drop i l) ≡ 0
+  unfolding leastIndex
+  index-end l i e = ap (leastIndex t) (drop-end l i e)
+
+  -- ---- it is below the length exactly where the test holds of some
+  pub any-index : (l : List A) → any t l ≡ ltb (leastIndex t l) (length l)
+  unfolding any leastIndex
+  any-index [] = refl
+  any-index (x ∷ l) = go (t x) (any-index l)
+    where
+      go : (b : Bool) → any t l ≡ ltb (leastIndex t l) (length l)
+          → _≡_ {A = Bool} (elim b [ true ↦ true | false ↦ any t l ]) (ltb (elim b [ true ↦ 0 | false ↦ suc (leastIndex t l) ]) (suc (length l)))
+      go true ih = sym (lt-ltb 0 (suc (length l)) (omega arith))
+      go false ih = ih ∙ sym (leb·suc-suc (suc (leastIndex t l)) (length l))
+
+  -- ---- it is the least at which the test holds, the length where there is none
+  abbrev pub HoldsAt : A → List A → ℕ → Type 0
+  HoldsAt d l i = (i < length l) × (t (getD l i d) ≡ true)
+
+  here : (d x : A) (l : List A) → t x ≡ true → LeastBelow (HoldsAt d (x ∷ l)) (suc (length l)) 0
+  here d x l e = record { within = omega arith; found = λ h. record { holds = (h, e); first = λ j p. omega arith }; missing = λ h. absurd (omega arith) }
+
+  later : (d x : A) (l : List A) (r : ℕ) → t x ≡ false → LeastBelow (HoldsAt d l) (length l) r → LeastBelow (HoldsAt d (x ∷ l)) (suc (length l)) (suc r)
+  later d x l r e m = record {
+    within = omega (arith, m .within);
+    found = λ h. let n = m .found (omega arith) in record { holds = (h, n .holds .1); first = after r (n .first) };
+    missing = λ h k p. none k p (m .missing (omega arith));
+  }
+    where
+      after : (r : ℕ) → ((j : ℕ) → HoldsAt d l j → r ≤ j) → (j : ℕ) → HoldsAt d (x ∷ l) j → suc r ≤ j
+      after r f zero p = absurd (true≢false (sym (p .1) ∙ e))
+      after r f (suc j) p = suc-le-suc (f j (le-of-suc-le-suc (p .0), p .1))
+
+      none : (k : ℕ) → HoldsAt d (x ∷ l) k → ((j : ℕ) → HoldsAt d l j → ⊥) → ⊥
+      none zero p f = true≢false (sym (p .1) ∙ e)
+      none (suc k) p f = f k (le-of-suc-le-suc (p .0), p .1)
+
+  pub index-least : (d : A) (l : List A) → LeastBelow (HoldsAt d l) (length l) (leastIndex t l)
+  unfolding leastIndex
+  index-least d [] = record { within = omega arith; found = λ h. absurd (omega arith); missing = λ h k p. omega (arith, p .0) }
+  index-least d (x ∷ l) = go (t x) refl (index-least d l)
+    where
+      go : (b : Bool) → t x ≡ b → LeastBelow (HoldsAt d l) (length l) (leastIndex t l) → LeastBelow (HoldsAt d (x ∷ l)) (suc (length l)) (elim b [ true ↦ 0 | false ↦ suc (leastIndex t l) ])
+      go true e m = here d x l e
+      go false e m = later d x l (leastIndex t l) e m
+
+  -- some of a list passes exactly where there is an index at which it does
+  pub any-holds : (d : A) (l : List A) → any t l ≡ true → HoldsAt d l (leastIndex t l)
+  any-holds d l e = index-least d l .found (ltb-true (leastIndex t l) (length l) (sym (any-index l) ∙ e)) .holds
+
+  pub holds-any : (d : A) (l : List A) (i : ℕ) → HoldsAt d l i → any t l ≡ true
+  holds-any d l i p =
+      any-index l ∙ cases (ltb (leastIndex t l) (length l)) (λ e. e) (λ e. absurd (index-least d l .missing (ltb-false (leastIndex t l) (length l) e) i p))
+
+-- ---- two of a list are so related exactly where one of them is so to one before it
+module _ {A : Type 0} (r : A → A → Bool) where
+  -- whether entry e, with its index, is so related to one that stands before it in a list
+  unfoldable pub toEarlier : List A → ℕ × A → Bool
+  toEarlier l e = any (λ y. r y (e .1)) (take (e .0) l)
+
+  any-either : (t s : A → Bool) (l : List A) → any (λ x. t x || s x) l ≡ (any t l || any s l)
+  unfolding any
+  any-either t s [] = refl
+  any-either t s (x ∷ l) =
+      any-or (λ x. t x || s x) x l ∙ ap (λ (b : Bool). (t x || s x) || b) (any-either t s l) ∙ regroup (t x) (s x) (any t l) (any s l)
+      ∙ ap₂ (λ (a b : Bool). a || b) (sym (any-or t x l)) (sym (any-or s x l))
+    where
+      regroup : (a b c d : Bool) → ((a || b) || (c || d)) ≡ ((a || c) || (b || d))
+      regroup true b c d = refl
+      regroup false true true d = refl
+      regroup false true false d = refl
+      regroup false false c d = refl
+
+  -- the entries of l, where m stands before it
+  abbrev From : List A → List A → Type 0
+  From m l = any (toEarlier (m ++ l)) (numberedFrom (length m) l) ≡ (any (λ x. any (λ y. r y x) m) l || anyTwo r l)
+
+  from-more : (m l : List A) (x : A) → From (m ++ (x ∷ [])) l → From m (x ∷ l)
+  unfolding numberedFrom toEarlier
+  from-more m l x ih =
+      any-or (toEarlier (m ++ x ∷ l)) (length m, x) (numberedFrom (suc (length m)) l)
+      ∙ ap₂ (λ (a b : Bool). a || b) (ap (any (λ y. r y x)) (take-append-seam m (x ∷ l))) rest
+      ∙ regroup (any (λ y. r y x) m) (any to-m l) (any (r x) l) (anyTwo r l)
+      ∙ ap₂ (λ (a b : Bool). a || b) (sym (any-or to-m x l)) (sym (anyTwo-or r x l))
+    where
+      to-m : A → Bool
+      to-m z = any (λ y. r y z) m
+
+      more : length (m ++ (x ∷ [])) ≡ suc (length m)
+      more = length-append m (x ∷ []) ∙ add-one (length m)
+
+      rest : any (toEarlier (m ++ x ∷ l)) (numberedFrom (suc (length m)) l) ≡ ((any to-m l || any (r x) l) || anyTwo r l)
+      rest =
+          ap₂ (λ (k : List A) (n : ℕ). any (toEarlier k) (numberedFrom n l)) (sym (append-assoc m (x ∷ []) l)) (sym more)
+          ∙ ih
+          ∙ ap (λ (b : Bool). b || anyTwo r l) (ap (λ (t : A → Bool). any t l) (λ i z. any-snoc (λ y. r y z) m x i) ∙ any-either to-m (r x) l)
+
+      regroup : (a b c d : Bool) → (a || ((b || c) || d)) ≡ ((a || b) || (c || d))
+      regroup true b c d = refl
+      regroup false true c d = refl
+      regroup false false c d = refl
+
+  two-from : (m l : List A) → From m l
+  unfolding any anyTwo numberedFrom
+  two-from m [] = refl
+  two-from m (x ∷ l) = from-more m l x (two-from (m ++ (x ∷ [])) l)
+
+  never : (l : List A) → any (λ (_ : A). false) l ≡ false
+  unfolding any
+  never [] = refl
+  never (x ∷ l) = never l
+
+  pub two-is : (l : List A) → anyTwo r l ≡ any (toEarlier l) (numbered l)
+  unfolding numbered any
+  two-is l = sym (two-from [] l ∙ ap (λ (b : Bool). b || anyTwo r l) (never l))
