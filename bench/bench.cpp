@@ -264,7 +264,7 @@ void machine() {
 int main(int argc, char **argv) {
     const char *linked = argc > 1 ? argv[1] : "checker";
     const int samples = argc > 2 ? std::max(3, std::atoi(argv[2])) : 301;
-    std::vector<Case> loads, corrected, balls, roofs, towers, every;
+    std::vector<Case> loads, corrected, balls, roofs, towers, thin, every;
     std::vector<Stages> by_stage;
     for (const auto &m : streams::ten_buildings()) {
         by_stage.push_back(make_stages(m));
@@ -276,7 +276,8 @@ int main(int argc, char **argv) {
     for (int n : {4, 8, 16, 32, 64, 127})
         roofs.push_back(make_case(streams::prism(std::to_string(n) + "-corner roof", streams::star(n, 30000, 50000), 9000), false));
     for (int storeys : {12, 25, 50}) towers.push_back(make_case(streams::tower(std::to_string(storeys) + "-storey tower", storeys), false));
-    for (const auto *some : {&loads, &corrected, &balls, &roofs, &towers}) every.insert(every.end(), some->begin(), some->end());
+    for (int n : {4, 5, 8, 40, 127}) thin.push_back(make_case(streams::thin_rings("rings of " + std::to_string(n), n), false));
+    for (const auto *some : {&loads, &corrected, &balls, &roofs, &towers, &thin}) every.insert(every.end(), some->begin(), some->end());
     for (const auto &c : every) must_agree(c);
 
     machine();
@@ -287,5 +288,6 @@ int main(int argc, char **argv) {
     growth("growth with polygons (balls of triangles)", linked, balls, samples);
     growth("growth with the corners of one roof (prisms)", linked, roofs, samples);
     growth("growth with the storeys of a tower numbered from the top down", linked, towers, samples);
+    growth("growth with the entries of rings on a line, which check 03 is asked of", linked, thin, samples);
     stacks(linked, every);
 }

@@ -197,6 +197,21 @@ inline Model eight_rings() {
     return m;
 }
 
+// As many rings of n entries as fit, over points on one line, each from another point on: they pass 01 to 03 and fail 04, so that 03 is
+// most of what is asked of them.
+inline Model thin_rings(std::string name, int n) {
+    Model m{std::move(name), 10, {}, {}};
+    const int points = 127;
+    for (int i = 0; i < points; i++) m.points.push_back({300 * i, 200 * i, 100 * i});
+    for (int k = 0; k < std::min(256, 1024 / n); k++) {
+        Ring ring;
+        for (int i = 0; i < n - 1; i++) ring.push_back((7 * k + i) % points);
+        ring.push_back(ring[0]);
+        m.rings.push_back(ring);
+    }
+    return m;
+}
+
 // A square tower whose points are numbered from the top down and whose floor is polygon 0: a sweep over its edges in their order goes
 // one storey further, so that 0B has to go another way.
 inline Model tower(std::string name, int storeys) {

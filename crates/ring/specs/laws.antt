@@ -2,3 +2,4 @@
 pub mod Agree
 pub mod Rings
 pub mod Repeated
+pub mod Examples
