@@ -197,8 +197,8 @@ inline Model eight_rings() {
     return m;
 }
 
-// As many rings of n entries as fit, over points on one line, each from another point on: they pass 01 to 03 and fail 04, so that 03 is
-// most of what is asked of them.
+// As many rings of n entries as fit, over points on one line, each from another point on: they pass 01 to 03 and fail 04, where a sound
+// ring that is convex would never come to 03.
 inline Model thin_rings(std::string name, int n) {
     Model m{std::move(name), 10, {}, {}};
     const int points = 127;

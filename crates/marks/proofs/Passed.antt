@@ -61,6 +61,10 @@ module _ (words met : List ℕ) (x : ℕ) (small : x < 512) (m : Marked words me
           ∙ sym (ap (λ (b : Bool). any (eqb p) met || b) t ∙ or-false (any (eqb p) met)))
 
 -- ---- the loop
+-- an entry, the closing one too, is one of the points that can be marked
+pub point : (ring : List ℕ) (i x : ℕ) → Known ring → i < length ring → x ≡ getD ring i 0 → x < 512
+point ring i x known h is = subst (λ (n : ℕ). n < 512) (sym is) (known .each i h)
+
 pub record Passed (ring words : List ℕ) (i : ℕ) : Type 0 where
   pub inside : i ≤ length ring - 1
   pub marked : Marked words (take i (front ring))
@@ -77,19 +81,19 @@ module _ (ring words : List ℕ) (i x : ℕ) (known : Known ring) (inside : i + 
   within : i < length rest
   within = omega (arith, numbered-length (front ring), front-length ring)
 
-  pub point : x < 512
-  point = subst (λ (n : ℕ). n < 512) (sym is) (known .each i (omega arith))
+  small : x < 512
+  small = point ring i x known (omega arith) is
 
   -- the mark tells whether the number stood earlier
   tells : {b : Bool} → b ≡ eqb (getD (bitsOf 64 (getD words (x / 64) 0)) (x % 64) 0) 1 → stoodEarlier (front ring) (getD rest i (0, 0)) ≡ b
-  tells e = stood-at ring i inside ∙ ap (λ (n : ℕ). lists n (take i (front ring))) (sym is) ∙ sym (mark-is words (take i (front ring)) x point (p .marked)) ∙ sym e
+  tells e = stood-at ring i inside ∙ ap (λ (n : ℕ). lists n (take i (front ring))) (sym is) ∙ sym (mark-is words (take i (front ring)) x small (p .marked)) ∙ sym e
 
   pub passed-more : (word : ℕ) → false ≡ eqb (getD (bitsOf 64 (getD words (x / 64) 0)) (x % 64) 0) 1
       → bitsOf 64 word ≡ set (bitsOf 64 (getD words (x / 64) 0)) (x % 64) 1
       → Passed ring (set words (x / 64) word) (i + 1)
   passed-more word e s = record {
     inside = omega arith;
-    marked = subst (Marked (set words (x / 64) word)) (sym next) (marked-more words (take i (front ring)) x point (p .marked) word s);
+    marked = subst (Marked (set words (x / 64) word)) (sym next) (marked-more words (take i (front ring)) x small (p .marked) word s);
     left = let n = index-next (stoodEarlier (front ring)) rest i (0, 0) within (tells e) in omega (arith, p .left);
   }
     where

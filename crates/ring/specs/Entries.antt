@@ -19,8 +19,8 @@ isRepeated ring = anyTwo eqb (front ring)
 unfoldable pub stoodEarlier : List ℕ → ℕ × ℕ → Bool
 stoodEarlier l e = lists (e .1) (take (e .0) l)
 
--- document 02 (iii): "for 03 the least entry index whose number stood earlier, the closing entry aside"; where there is none, the
--- closing entry's
+-- document 02 (iii): "for 03 the least entry index whose number stood earlier, the closing entry aside"; where there is none, how
+-- many entries stand before the closing one
 unfoldable pub repeatedAt : List ℕ → ℕ
 repeatedAt ring = leastIndex (stoodEarlier (front ring)) (numbered (front ring))
 

@@ -1,7 +1,10 @@
 -- What is proved of the definitions.
 pub mod Agree
+pub mod Alls
 pub mod Bools
 pub mod First
+pub mod Front
+pub mod Index
 pub mod Least
 pub mod Linear
 pub mod Mach
@@ -10,12 +13,9 @@ pub mod Places
 pub mod Reverse
 pub mod Ring
 pub mod Same
-pub mod Front
-pub mod Index
 pub mod Search
 pub mod Size
 pub mod Solve
 pub mod Stores
 pub mod Sum
 pub mod Tests
-pub mod Alls

@@ -35,23 +35,26 @@ pub fn reached(ring: &[usize], before: &[usize]) -> Vec<&'static str> {
         let (at, number) = (again[0], entries[again[0]]);
         let once = again.len() == 1;
         vec![
-            (known && !fails_01(before) && !fails_02(before) && !fails_03(before), NAMES[5]),
-            (ring.len() == 4, NAMES[6]),
-            (once && ring.len() == 128, NAMES[7]),
-            (once && number == entries[0], NAMES[8]),
-            (once && entries[at - 1] == number, NAMES[9]),
-            (at == entries.len() - 1, NAMES[10]),
-            (once && number == 511, NAMES[11]),
-            (entries.iter().filter(|&&entry| entry == number).count() == 3, NAMES[12]),
+            (
+                known && !fails_01(before) && !fails_02(before) && !fails_03(before),
+                "03 fails, the ring before it has all its numbers and passes",
+            ),
+            (ring.len() == 4, "03 fails, ring of 4 entries"),
+            (once && ring.len() == 128, "03 fails, 128 entries, one number twice"),
+            (once && number == entries[0], "03 fails by the first number alone"),
+            (once && entries[at - 1] == number, "03 fails by two entries next to each other alone"),
+            (at == entries.len() - 1, "03 fails at the entry before the closing one alone"),
+            (once && number == 511, "03 fails by number 511 alone"),
+            (entries.iter().filter(|&&entry| entry == number).count() == 3, "03 fails by a number that stands three times"),
         ]
     } else {
         let row = |from: usize| (from..from + 64).all(|number| entries.contains(&number));
         vec![
-            (ring.len() == 128, NAMES[0]),
-            (apart(64), NAMES[1]),
-            (apart(256), NAMES[2]),
-            (ring.len() > 64 && (0..8).any(|word| row(64 * word)), NAMES[3]),
-            (known, NAMES[4]),
+            (ring.len() == 128, "03 passes, 128 entries"),
+            (apart(64), "03 passes, numbers 64 apart"),
+            (apart(256), "03 passes, numbers 256 apart"),
+            (ring.len() > 64 && (0..8).any(|word| row(64 * word)), "03 passes, 64 numbers in a row"),
+            (known, "03 passes, the ring before it has all its numbers"),
         ]
     };
     found.into_iter().filter(|(holds, _)| *holds).map(|(_, name)| name).collect()

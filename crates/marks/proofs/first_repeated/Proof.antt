@@ -36,7 +36,7 @@ array-read-word : tie.Need-array-read-word Inv-loop μ-loop
 array-read-word c =
     let l = c .before .before .before .loop in
     let a = c .before .before .before .before .before in
-    omega (arith, point (a .args .ring .now) (l .marks) (l .i) (c .wide .result) (a .pre) (omega arith) (c .wide .ensures) (l .inv .1))
+    omega (arith, point (a .args .ring .now) (l .i) (c .wide .result) (a .pre) (omega arith) (c .wide .ensures))
 
 with-set-requires : tie.Need-with-set-requires Inv-loop μ-loop
 with-set-requires c κs = search needs
@@ -59,7 +59,7 @@ array-write-marks c =
     let l = c .before .before .before .before .before .before .loop in
     let a = c .before .before .before .before .before .before .before .before in
     let w = c .before .before .before .wide in
-    omega (arith, point (a .args .ring .now) (l .marks) (l .i) (w .result) (a .pre) (omega arith) (w .ensures) (l .inv .1))
+    omega (arith, point (a .args .ring .now) (l .i) (w .result) (a .pre) (omega arith) (w .ensures))
 
 add-i : tie.Need-add-i Inv-loop μ-loop
 add-i c = search needs
