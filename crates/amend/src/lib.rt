@@ -43,7 +43,7 @@ pub fn move_point(
     entries: &[u16; 1024],
     starts: &[u16; 257],
     stamps: &mut [u32; 256],
-    findings: &mut [u8; 256],
+    findings: &mut [u16; 256],
     parts: &mut [i64; 256],
     table: &[u64; 1024],
     turned: &[u8; 256],

@@ -12,9 +12,10 @@ plain n = digits 2 n
 unfoldable pub reported : ℕ → ℕ → ℕ → ℕ → ℤ → List ℕ
 reported check a b faulty volume = digits 2 0 ++ digits 2 check ++ digits 4 a ++ digits 4 b ++ digits 4 faulty ++ digits 16 (bits64 volume)
 
--- "`00`, the polygon's finding 2, its stamp 8, its part of the six-volume 16"
-unfoldable pub told : ℕ → ℕ → ℤ → List ℕ
-told finding stamp part = digits 2 0 ++ digits 2 finding ++ digits 8 stamp ++ digits 16 (bits64 part)
+-- "`00`, the polygon's finding 2, its stamp 8, its part of the six-volume 16"; document 02 (iii): "The question's answer grows by 4 digits
+-- after the finding, to 32 digits"
+unfoldable pub told : ℕ → ℕ → ℕ → ℤ → List ℕ
+told finding position stamp part = digits 2 0 ++ digits 2 finding ++ digits 4 position ++ digits 8 stamp ++ digits 16 (bits64 part)
 
 unfoldable pub answer-computes : Unit {0}
 unfolding plain reported told

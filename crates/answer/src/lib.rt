@@ -76,14 +76,22 @@ pub fn put_report(
 }
 
 // Writes the answer to a question.
-pub fn put_told(room: &mut [u8], at: usize, finding: u8, stamp: u32, part: i64) -> usize
-    requires { ⌜ at + 29 ≤ length (now room) ⌝ }
-    ensures { λ r. ⌜ Wrote (ended (told finding stamp part)) (now (room .entry)) at (now (room .exit)) r ⌝ }
+pub fn put_told(
+    room: &mut [u8],
+    at: usize,
+    finding: u8,
+    position: usize,
+    stamp: u32,
+    part: i64,
+) -> usize
+    requires { ⌜ at + 33 ≤ length (now room) ⌝ }
+    ensures { λ r. ⌜ Wrote (ended (told finding position stamp part)) (now (room .entry)) at (now (room .exit)) r ⌝ }
 {
     put_digits(room, at, 2, 0);
     put_digits(room, at + 2, 2, finding as u64);
-    put_digits(room, at + 4, 8, stamp as u64);
-    put_digits(room, at + 12, 16, bits(part));
-    room[at + 28] = 10;
-    at + 29
+    put_digits(room, at + 4, 4, position as u64);
+    put_digits(room, at + 8, 8, stamp as u64);
+    put_digits(room, at + 16, 16, bits(part));
+    room[at + 32] = 10;
+    at + 33
 }

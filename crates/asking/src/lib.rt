@@ -2,7 +2,7 @@
 use desk::Desk;
 use service::Refusal;
 ghost use mathlib.Core.Path.{_≡_};
-ghost use Prim.Native.Nat.{_+_, _≤_};
+ghost use Prim.Native.Nat.{_+_, _/_, _%_, _≤_};
 ghost use lib.ListN.{length};
 ghost use Rattle.frame.specs.Frame as F;
 ghost use Rattle.building.specs.held.Holds.{Arrays};
@@ -25,10 +25,24 @@ fn of_question(d: Desk, p: usize) -> Refusal
     Refusal::Accepted
 }
 
-// A question: the polygon's kept finding, stamp and part.
+// The number of a finding as it is kept.
+fn number_of(kept: u16) -> u8
+    ensures { λ r. ⌜ r ≡ kept % 16 ⌝ }
+{
+    (kept % 16) as u8
+}
+
+// Its position.
+fn position_of(kept: u16) -> usize
+    ensures { λ r. ⌜ r ≡ kept / 16 ⌝ }
+{
+    (kept / 16) as usize
+}
+
+// A question: the polygon's kept finding with its position, its stamp and its part.
 pub fn ask(
     stamps: &[u32; 256],
-    findings: &[u8; 256],
+    findings: &[u16; 256],
     parts: &[i64; 256],
     room: &mut [u8],
     d: Desk,
@@ -40,10 +54,12 @@ pub fn ask(
     let refusal = of_question(d, p);
     if desk::is_accepted(refusal) {
         let from = d.at;
-        let finding = findings[p];
+        let kept = findings[p];
+        let finding = number_of(kept);
+        let position = position_of(kept);
         let stamp = stamps[p];
         let part = parts[p];
-        let at = answer::put_told(room, from, finding, stamp, part);
+        let at = answer::put_told(room, from, finding, position, stamp, part);
         let mode = d.mode;
         let held = d.held;
         return Desk { mode, held, at };

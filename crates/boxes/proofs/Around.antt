@@ -29,14 +29,14 @@ pub apart-less : {m i e : ℕ} → Apart m i e → (n : ℕ) → n ≤ e → Apa
 apart-less p n h = record { each = λ k l. p .each k (omega arith) }
 
 -- ---- a row in which neighbours do not clash
-module _ {us vs : List ℤ} {m : ℕ} (f : Free us vs m) (i : ℕ) where
+module _ {us vs : List ℤ} {m i : ℕ} (f : Free us vs m i) where
   abbrev rest-of : ℕ → Bool
   rest-of n = any (forbidden m (i, edgeAt us vs i)) (drop n (edges us vs m))
 
   pub row-past : i + 1 < m → any (forbidden m (i, edgeAt us vs i)) (drop (i + 2) (edges us vs m)) ≡ any (forbidden m (i, edgeAt us vs i)) (drop (i + 1) (edges us vs m))
   row-past h =
       let z : i + 2 ≡ i + 1 + 1 = omega arith in
-      ap rest-of z ∙ row-next us vs m (forbidden m (i, edgeAt us vs i)) (i + 1) h (f .next i h)
+      ap rest-of z ∙ row-next us vs m (forbidden m (i, edgeAt us vs i)) (i + 1) h (f .next h)
 
   -- past the end stands at most the last edge
   pub row-left : (e : ℕ) → 2 ≤ e → (e ≡ m) ⊎ ((i ≡ 0) × (e + 1 ≡ m)) → any (forbidden m (i, edgeAt us vs i)) (drop e (edges us vs m)) ≡ false
@@ -44,7 +44,7 @@ module _ {us vs : List ℤ} {m : ℕ} (f : Free us vs m) (i : ℕ) where
   row-left e h (inr (z, y)) =
       let l : e ≡ m - 1 = omega arith in
       sym (row-next us vs m (forbidden m (i, edgeAt us vs i)) e (omega arith)
-      (ap₂ (λ (a b : ℕ). forbidden m (a, edgeAt us vs a) (b, edgeAt us vs b)) z l ∙ f .last (omega arith)))
+      (ap₂ (λ (a b : ℕ). forbidden m (a, edgeAt us vs a) (b, edgeAt us vs b)) z l ∙ f .last z (omega arith)))
       ∙ row-end us vs m (forbidden m (i, edgeAt us vs i)) (e + 1) y
 
   pub row-short : i < m → m < i + 3 → any (forbidden m (i, edgeAt us vs i)) (drop (i + 1) (edges us vs m)) ≡ false

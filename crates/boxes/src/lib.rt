@@ -8,11 +8,11 @@ ghost use mathlib.Core.Logic.{_⊎_};
 ghost use Prim.Native.Nat.{_+_, _-_, _<_, _≤_};
 ghost use lib.ListN.{length, drop};
 ghost use Rattle.whole.specs.Lists.{any, numbered, tab};
-ghost use Rattle.crossing.specs.Crossed.{forbidden, isCrossed};
+ghost use Rattle.crossing.specs.Crossed.{forbidden, crossedAt};
 ghost use Rattle.plane.specs.Plane.{side};
 ghost use Rattle.plane.specs.held.Edges.{asSegment, spot, Close, Ends, edgeAt};
 ghost use Rattle.crossing.specs.held.Columns.{Spread};
-ghost use Rattle.boxes.specs.held.Around.{Beside, Free, Nexts, Nears};
+ghost use Rattle.boxes.specs.held.Around.{Beside, Free, Nexts, FirstNext, FirstNear};
 ghost use Rattle.extents.specs.held.Extents.{Covered};
 ghost use Rattle.boxes.specs.held.Boxes.{Boxes, parted, Parted, Apart};
 
@@ -55,7 +55,7 @@ fn clash_next(us: &[i64], vs: &[i64], m: usize, i: usize) -> bool
     )
 }
 
-// Whether some edge of m and the next one do, all being looked at: no step of this branches.
+// Whether some edge of m and the next one do, all being looked at: no step of this branches. Where it is false none do.
 fn clash_nexts(us: &[i64], vs: &[i64], m: usize) -> bool
     requires { ⌜ Spread (now us) (now vs) m ⌝ }
     requires { ⌜ m ≤ 128 ⌝ }
@@ -71,6 +71,22 @@ fn clash_nexts(us: &[i64], vs: &[i64], m: usize) -> bool
     found
 }
 
+// The first edge of m that does with the next one; m if there is none.
+fn first_next(us: &[i64], vs: &[i64], m: usize) -> usize
+    requires { ⌜ Spread (now us) (now vs) m ⌝ }
+    requires { ⌜ m ≤ 128 ⌝ }
+    ensures { λ r. ⌜ FirstNext (now (us .entry)) (now (vs .entry)) m r ⌝ }
+{
+    let mut i: usize = 0;
+    while i + 1 < m {
+        if clash_next(us, vs, m, i) {
+            return i;
+        }
+        i += 1;
+    }
+    m
+}
+
 // Whether the first edge of m and the last, which goes before it, do.
 fn clash_last(us: &[i64], vs: &[i64], m: usize) -> bool
     requires { ⌜ Spread (now us) (now vs) m ⌝ }
@@ -84,19 +100,23 @@ fn clash_last(us: &[i64], vs: &[i64], m: usize) -> bool
     )
 }
 
-// Whether two neighbours among m edges do.
-fn clash_near(us: &[i64], vs: &[i64], m: usize) -> bool
+// The first edge of m that does with a neighbour after it, the last being one of the first; m if there is none. It is looked for only
+// where there is one.
+fn first_near(us: &[i64], vs: &[i64], m: usize) -> usize
     requires { ⌜ Spread (now us) (now vs) m ⌝ }
     requires { ⌜ m ≤ 128 ⌝ }
-    ensures { λ r. ⌜ Nears (now (us .entry)) (now (vs .entry)) m r ⌝ }
+    ensures { λ r. ⌜ FirstNear (now (us .entry)) (now (vs .entry)) m r ⌝ }
 {
-    if clash_nexts(us, vs, m) {
-        return true;
-    }
     if m < 3 {
-        return false;
+        return first_next(us, vs, m);
     }
-    clash_last(us, vs, m)
+    if clash_last(us, vs, m) {
+        return 0;
+    }
+    if clash_nexts(us, vs, m) {
+        return first_next(us, vs, m);
+    }
+    m
 }
 
 // How far a place lies off an edge's line, and to which side.
@@ -333,7 +353,7 @@ fn end_of(m: usize, i: usize) -> usize
     if i == 0 { m - 1 } else { m }
 }
 
-// Whether edge i of m and a later one do, where neighbours do not.
+// Whether edge i of m and a later one do, where its neighbours after it do not.
 fn clashes_boxed(
     us: &[i64],
     vs: &[i64],
@@ -346,7 +366,7 @@ fn clashes_boxed(
 ) -> bool
     requires { ⌜ Spread (now us) (now vs) m ⌝ }
     requires { ⌜ Boxes (now us) (now vs) m (now lus) (now hus) (now lvs) (now hvs) ⌝ }
-    requires { ⌜ (Free (now us) (now vs) m) × (i < m) ⌝ }
+    requires { ⌜ (Free (now us) (now vs) m i) × (i < m) ⌝ }
     ensures { λ r. ⌜ r ≡ any (forbidden m (i, edgeAt (now (us .entry)) (now (vs .entry)) i)) (drop (i + 1) (numbered (tab (edgeAt (now (us .entry)) (now (vs .entry))) m))) ⌝ }
 {
     let end = end_of(m, i);
@@ -356,8 +376,9 @@ fn clashes_boxed(
     clashes_past(us, vs, lus, hus, lvs, hvs, m, i, end)
 }
 
-// Whether some two of m edges do, where neighbours do not.
-fn crossings_past(
+// The first of m edges that does with a later one, where near is the first that does with a neighbour: only those before it are left to
+// look at, and their neighbours do not.
+fn first_past(
     us: &[i64],
     vs: &[i64],
     lus: &[u16],
@@ -365,36 +386,36 @@ fn crossings_past(
     lvs: &[u16],
     hvs: &[u16],
     m: usize,
-) -> bool
+    near: usize,
+) -> usize
     requires { ⌜ Spread (now us) (now vs) m ⌝ }
     requires { ⌜ Boxes (now us) (now vs) m (now lus) (now hus) (now lvs) (now hvs) ⌝ }
-    requires { ⌜ Free (now us) (now vs) m ⌝ }
-    ensures { λ r. ⌜ r ≡ isCrossed (tab (edgeAt (now (us .entry)) (now (vs .entry))) m) ⌝ }
+    requires { ⌜ FirstNear (now us) (now vs) m near ⌝ }
+    ensures { λ r. ⌜ r ≡ crossedAt (tab (edgeAt (now (us .entry)) (now (vs .entry))) m) ⌝ }
 {
     let mut i: usize = 0;
-    while i < m {
+    while i < near {
         if clashes_boxed(us, vs, lus, hus, lvs, hvs, m, i) {
-            return true;
+            return i;
         }
         i += 1;
     }
-    false
+    i
 }
 
-// Whether some two of m edges do: neighbours first, then the others by their boxes. What no edge fills is parted from every box.
-pub fn crossings_many(us: &[i64], vs: &[i64], m: usize) -> bool
+// The least of m edges that does with any other; m if there is none. Neighbours first, then the others by their boxes. What no edge
+// fills is parted from every box.
+pub fn first_crossed(us: &[i64], vs: &[i64], m: usize) -> usize
     requires { ⌜ Spread (now us) (now vs) m ⌝ }
     requires { ⌜ (1 ≤ m) × (m ≤ 128) ⌝ }
-    ensures { λ r. ⌜ r ≡ isCrossed (tab (edgeAt (now (us .entry)) (now (vs .entry))) m) ⌝ }
+    ensures { λ r. ⌜ r ≡ crossedAt (tab (edgeAt (now (us .entry)) (now (vs .entry))) m) ⌝ }
 {
-    if clash_near(us, vs, m) {
-        return true;
-    }
+    let near = first_near(us, vs, m);
     let mut lus: [u16; 176] = [65535; 176];
     let mut hus: [u16; 176] = [0; 176];
     let mut lvs: [u16; 176] = [65535; 176];
     let mut hvs: [u16; 176] = [0; 176];
     extents::sides(us, m, &mut lus, &mut hus);
     extents::sides(vs, m, &mut lvs, &mut hvs);
-    crossings_past(us, vs, &lus, &hus, &lvs, &hvs, m)
+    first_past(us, vs, &lus, &hus, &lvs, &hvs, m, near)
 }

@@ -8,7 +8,7 @@ use lib.IntN.{ℤ, pos}
 use lib.Signed.{leZ}
 use Rattle.whole.specs.Lists.{given, first, firstGiven, tally, numbered, sumOf}
 use Rattle.polygon.specs.declared.Finding.{Finding}
-use Rattle.polygon.specs.Ring.{finding, findingNumber}
+use Rattle.polygon.specs.Ring.{finding, findingNumber, findingPosition}
 use Rattle.volume.specs.Part.{part}
 use Rattle.shell.specs.declared.Shape.{Shape}
 use Rattle.shell.specs.Shell.{shape, shapeNumber, shapeA, shapeB}
@@ -23,17 +23,18 @@ checkNumber (Faulty a f) = findingNumber f
 checkNumber (Unsound s) = shapeNumber s
 checkNumber Inward = 13
 
--- "the report names the lowest such polygon as a, with its check, b being 0"
+-- "the report names the lowest such polygon as a, with its check"
 unfoldable pub elementA : Verdict → ℕ
 elementA Accepted = 0
 elementA (Faulty a f) = a
 elementA (Unsound s) = shapeA s
 elementA Inward = 0
 
--- its second element: the larger end of an edge, and 0 where the table names none
+-- its second element: the larger end of an edge; document 02 (iii): "Reports show the position as element b for these checks, in place
+-- of 0"; and 0 where the table names none
 unfoldable pub elementB : Verdict → ℕ
 elementB Accepted = 0
-elementB (Faulty a f) = 0
+elementB (Faulty a f) = findingPosition f
 elementB (Unsound s) = shapeB s
 elementB Inward = 0
 

@@ -4,7 +4,7 @@ use shell::Shape;
 ghost use mathlib.Core.Path.{_≡_};
 ghost use Prim.Native.Nat.{_+_, _<_, _≤_};
 ghost use lib.ListN.{length, set};
-ghost use Rattle.polygon.specs.Ring.{findingNumber};
+ghost use Rattle.polygon.specs.Ring.{findingNumber, findingPosition};
 
 // The check that a report names, with its elements. `checkNumber`, `elementA` and `elementB` give document 01's numbers.
 pub enum Verdict {
@@ -43,9 +43,24 @@ pub fn finding_number(f: Finding) -> u8
         Finding::Sound => 0,
         Finding::Short => 1,
         Finding::Unclosed => 2,
-        Finding::Repeated => 3,
+        Finding::Repeated(_) => 3,
         Finding::NoNormal => 4,
-        Finding::Crossed => 5,
-        Finding::Uneven => 6,
+        Finding::Crossed(_) => 5,
+        Finding::Uneven(_) => 6,
+    }
+}
+
+// Where in the ring a finding is met; 0 where it has no position.
+pub fn finding_position(f: Finding) -> u16
+    ensures { λ r. ⌜ r ≡ findingPosition f ⌝ }
+{
+    match f {
+        Finding::Sound => 0,
+        Finding::Short => 0,
+        Finding::Unclosed => 0,
+        Finding::Repeated(i) => i,
+        Finding::NoNormal => 0,
+        Finding::Crossed(i) => i,
+        Finding::Uneven(i) => i,
     }
 }

@@ -17,7 +17,7 @@ fn check_rings(
     points: &[i32; 1536],
     entries: &[u16; 1024],
     starts: &[u16; 257],
-    findings: &mut [u8; 256],
+    findings: &mut [u16; 256],
     parts: &mut [i64; 256],
     s: Scalars,
 )
@@ -58,15 +58,16 @@ fn clear_turned(turned: &mut [u8; 256])
     }
 }
 
-// Whether a number is one of checks 01 to 03.
-fn is_early(n: u8) -> bool
-    ensures { λ r. ⌜ r ≡ isEarly n ⌝ }
+// Whether a finding as it is kept is one of checks 01 to 03.
+fn is_early(kept: u16) -> bool
+    ensures { λ r. ⌜ r ≡ isEarly kept ⌝ }
 {
+    let n = kept % 16;
     (1 <= n) & (n <= 3)
 }
 
 // The lowest of the first n polygons that fails one of checks 01 to 03; n if there is none.
-fn lowest_early(findings: &[u8; 256], n: usize) -> usize
+fn lowest_early(findings: &[u16; 256], n: usize) -> usize
     requires { ⌜ (n ≤ 256) × (length (now findings) ≡ 256) ⌝ }
     ensures { λ r. ⌜ EarlyAt (now (findings .entry)) n r ⌝ }
 {
@@ -111,7 +112,7 @@ pub fn check_all(
     entries: &[u16; 1024],
     starts: &[u16; 257],
     stamps: &mut [u32; 256],
-    findings: &mut [u8; 256],
+    findings: &mut [u16; 256],
     parts: &mut [i64; 256],
     table: &mut [u64; 1024],
     turned: &mut [u8; 256],

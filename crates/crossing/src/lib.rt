@@ -3,7 +3,7 @@ ghost use mathlib.Core.Path.{_≡_};
 ghost use Prim.Native.Nat.{_+_, _<_};
 ghost use lib.ListN.{drop};
 ghost use Rattle.whole.specs.Lists.{any, numbered, tab};
-ghost use Rattle.crossing.specs.Crossed.{forbidden, isCrossed};
+ghost use Rattle.crossing.specs.Crossed.{forbidden, crossedAt};
 ghost use Rattle.plane.specs.held.Edges.{edgeAt};
 ghost use Rattle.crossing.specs.held.Columns.{Spread};
 
@@ -40,17 +40,17 @@ fn clashes(us: &[i64], vs: &[i64], m: usize, i: usize) -> bool
     false
 }
 
-// Whether some two of m edges do.
-pub fn crossings(us: &[i64], vs: &[i64], m: usize) -> bool
+// The first of m edges that does so with a later one, and so the least that does with any; m if there is none.
+pub fn first_crossed(us: &[i64], vs: &[i64], m: usize) -> usize
     requires { ⌜ Spread (now us) (now vs) m ⌝ }
-    ensures { λ r. ⌜ r ≡ isCrossed (tab (edgeAt (now (us .entry)) (now (vs .entry))) m) ⌝ }
+    ensures { λ r. ⌜ r ≡ crossedAt (tab (edgeAt (now (us .entry)) (now (vs .entry))) m) ⌝ }
 {
     let mut i: usize = 0;
     while i < m {
         if clashes(us, vs, m, i) {
-            return true;
+            return i;
         }
         i += 1;
     }
-    false
+    i
 }

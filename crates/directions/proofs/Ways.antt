@@ -23,7 +23,7 @@ use Rattle.shell.specs.held.Kept.{Loaded, turn, turnedRings, headingOf, alikeIn
 use Rattle.edges.specs.laws.Tallies.{one, one-yes, one-no, tally-nil, tally-cons, tally-map, tally-append, tally-reverse, tally-in}
 use Rattle.edges.specs.laws.Ascending.{tally-ascending, in-ascending}
 use Rattle.shell.specs.laws.Adequate.{Is, is-same, goes, uses, alike-is}
-use Rattle.whole.specs.held.Least.{Least}
+use Rattle.whole.specs.Least.{Least}
 use Rattle.directions.specs.laws.Turned.{turned-rings, uses-turned}
 use Rattle.shell.specs.laws.Uses.{Use, step-use, words-use, use-key, use-poly, use-dir, ring-ways, ring-steps, ring-long, entry-small, map-span, span-same, all-append, pairAt}
 use Rattle.shell.specs.laws.Pairs.{Pairs, empty, pair, ofEdge, tally-keys}

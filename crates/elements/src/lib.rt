@@ -47,13 +47,13 @@ pub fn element_a(v: Verdict) -> usize
     }
 }
 
-// Its element b.
+// Its element b: of a polygon's finding, its position.
 pub fn element_b(v: Verdict) -> usize
     ensures { λ r. ⌜ r ≡ elementB v ⌝ }
 {
     match v {
         Verdict::Accepted => 0,
-        Verdict::Faulty(_, _) => 0,
+        Verdict::Faulty(_, f) => building::finding_position(f) as usize,
         Verdict::Unsound(s) => shape_b(s),
         Verdict::Inward => 0,
     }

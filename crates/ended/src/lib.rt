@@ -26,7 +26,7 @@ pub fn end_load(
     entries: &[u16; 1024],
     starts: &[u16; 257],
     stamps: &mut [u32; 256],
-    findings: &mut [u8; 256],
+    findings: &mut [u16; 256],
     parts: &mut [i64; 256],
     table: &mut [u64; 1024],
     turned: &mut [u8; 256],

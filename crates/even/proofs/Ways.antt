@@ -1,51 +1,58 @@
 -- Check 06, entry by entry.
 use Prim.Native.Nat.{ℕ, zero, suc, _+_, _*_, _-_, _≤_, _<_}
-use native.Mathlib.Nat.{le-trans, le-of-eq}
+use native.Mathlib.Nat.{le-trans, le-of-eq, zero-add}
 use native.Mathlib.Decide.{decLe}
 use native.Mathlib.Omega.{arith}
-use mathlib.Core.Path.{_≡_, refl, sym, ap, _∙_, subst}
+use mathlib.Core.Path.{_≡_, sym, ap, ap₂, _∙_, subst}
 use mathlib.Core.Bool.{Bool, true, false}
-use mathlib.Core.List.{List, [], _∷_, map}
+use mathlib.Core.List.{List}
+use borrow.Author.Tests.{ltb-false}
 use lib.Dec.{ltb}
 use lib.ListN.{length, getD, drop, length-map}
 use lib.IntN.{ℤ, pos, _*ℤ_}
-use Rattle.whole.specs.Lists.{any}
+use Rattle.whole.specs.Lists.{leastIndex}
+use Rattle.whole.specs.laws.Index.{index-here, index-next, index-end}
 use Rattle.whole.specs.laws.Places.{map-at}
-use Rattle.whole.specs.laws.Search.{any-here, any-next, any-end}
 use Rattle.space.specs.Space.{Point, origin, relativeTo, dot, places}
 use Rattle.ring.specs.Entries.{isUnclosed}
 use Rattle.normal.specs.Normal.{relative, normal}
-use Rattle.even.specs.Even.{square, squares, exceeds, isUneven}
+use Rattle.even.specs.Even.{square, squares, exceeds, isUneven, unevenAt}
 use Rattle.even.specs.laws.Quad.{quad-uneven}
 use Rattle.space.specs.held.Points.{pointsOf, placeAt, Coords, Known}
 use Rattle.even.specs.held.Offs.{largest, offAt, Within}
 use Rattle.space.specs.laws.Sizes.{point-at}
 use Rattle.even.specs.laws.Distance.{decides, settled, far}
+use Rattle.even.specs.laws.Least.{relative-length, relative-at, uneven-is, uneven-least}
 
 -- ---- the places of a ring, relative to its first
 pub ways : List Point → List ℕ → List Point
 ways points ring = relative (places points ring)
 
 ways-length : (points : List Point) (ring : List ℕ) → length (ways points ring) ≡ length ring
-unfolding ways relative places
-ways-length points [] = refl
-ways-length points (a ∷ l) = ap suc (length-map (map (λ n. getD points n origin) l) (relativeTo (getD points a origin)) ∙ length-map l (λ n. getD points n origin))
+unfolding ways places
+ways-length points ring = relative-length (places points ring) ∙ length-map ring (λ n. getD points n origin)
 
 ways-at : (points : List Point) (ring : List ℕ) (i : ℕ) → i < length ring → getD (ways points ring) i origin ≡ relativeTo (getD points (getD ring 0 0) origin) (getD points (getD ring i 0) origin)
-unfolding ways relative places
-ways-at points [] i h = absurd (omega arith)
-ways-at points (a ∷ l) i h =
-    map-at (relativeTo (getD points a origin)) (map (λ n. getD points n origin) (a ∷ l)) i origin origin (subst (λ (n : ℕ). i < n) (sym (length-map (a ∷ l) (λ n. getD points n origin))) h)
-    ∙ ap (relativeTo (getD points a origin)) (map-at (λ n. getD points n origin) (a ∷ l) i 0 origin h)
+unfolding ways places
+ways-at points ring i h =
+    relative-at (places points ring) i (omega (arith, length-map ring (λ n. getD points n origin)))
+    ∙ ap₂ relativeTo (map-at (λ n. getD points n origin) ring 0 0 origin (omega arith)) (map-at (λ n. getD points n origin) ring i 0 origin h)
 
 -- none of the first i entries is too far off
 pub record Even (tolerance : ℕ) (n : Point) (flat : List ℤ) (ring : List ℕ) (i : ℕ) : Type 0 where
   pub upto : i ≤ length ring
-  pub rest : any (far tolerance n) (drop i (ways (pointsOf flat) ring)) ≡ isUneven tolerance n (places (pointsOf flat) ring)
+  pub rest : i + leastIndex (far tolerance n) (drop i (ways (pointsOf flat) ring)) ≡ unevenAt tolerance n (places (pointsOf flat) ring)
 
 pub even-start : (tolerance : ℕ) (n : Point) (flat : List ℤ) (ring : List ℕ) → Even tolerance n flat ring 0
-unfolding isUneven ways
-even-start tolerance n flat ring = record { upto = omega arith; rest = refl }
+unfolding unevenAt ways
+even-start tolerance n flat ring = record { upto = omega arith; rest = zero-add (unevenAt tolerance n (places (pointsOf flat) ring)) }
+
+-- what is left begins with the entry that is looked for, or with one before it
+stands : (i : ℕ) {x : ℕ} → x ≡ 0 → i ≡ i + x
+stands i e = omega arith
+
+onward : (i : ℕ) {x y : ℕ} → x ≡ suc y → i + 1 + y ≡ i + x
+onward i e = omega arith
 
 module _ {flat : List ℤ} {ring : List ℕ} (h : Coords flat) (k : Known ring) (i : ℕ) (l : i < length ring) where
   inside : i < length (ways (pointsOf flat) ring)
@@ -55,13 +62,13 @@ module _ {flat : List ℤ} {ring : List ℕ} (h : Coords flat) (k : Known ring) 
   way = (λ j. relativeTo (sym (point-at h (getD ring 0 0) (k .each 0 (omega arith))) j) (sym (point-at h (getD ring i 0) (k .each i l)) j)) ∙ sym (ways-at (pointsOf flat) ring i l)
 
 module _ (tolerance : ℕ) (n : Point) {flat : List ℤ} {ring : List ℕ} (h : Coords flat) (k : Known ring) where
-  pub even-end : {i : ℕ} → Even tolerance n flat ring i → i ≡ length ring → false ≡ isUneven tolerance n (places (pointsOf flat) ring)
-  even-end {i} e z = sym (any-end (far tolerance n) (ways (pointsOf flat) ring) i (z ∙ sym (ways-length (pointsOf flat) ring))) ∙ e .rest
+  pub even-end : {i : ℕ} → Even tolerance n flat ring i → i ≡ length ring → i ≡ unevenAt tolerance n (places (pointsOf flat) ring)
+  even-end {i} e z = stands i (index-end (far tolerance n) (ways (pointsOf flat) ring) i (z ∙ sym (ways-length (pointsOf flat) ring))) ∙ e .rest
 
   module _ (i : ℕ) (l : i < length ring) (e : Even tolerance n flat ring i) where
     -- one entry on
     past : far tolerance n (getD (ways (pointsOf flat) ring) i origin) ≡ false → Even tolerance n flat ring (i + 1)
-    past t = record { upto = omega arith; rest = sym (any-next (far tolerance n) (ways (pointsOf flat) ring) i origin (inside h k i l) t) ∙ e .rest }
+    past t = record { upto = omega arith; rest = onward i (index-next (far tolerance n) (ways (pointsOf flat) ring) i origin (inside h k i l) t) ∙ e .rest }
 
     -- within the reach
     even-near : offAt flat n ring i ≤ tolerance * largest n → Even tolerance n flat ring (i + 1)
@@ -72,8 +79,8 @@ module _ (tolerance : ℕ) (n : Point) {flat : List ℤ} {ring : List ℕ} (h : 
       tells : r ≡ far tolerance n (getD (ways (pointsOf flat) ring) i origin)
       tells = q ∙ decides tolerance n f _ ∙ ap (far tolerance n) (way h k i l)
 
-      pub even-found : r ≡ true → true ≡ isUneven tolerance n (places (pointsOf flat) ring)
-      even-found t = sym (any-here (far tolerance n) (ways (pointsOf flat) ring) i origin (inside h k i l) (sym tells ∙ t)) ∙ e .rest
+      pub even-found : r ≡ true → i ≡ unevenAt tolerance n (places (pointsOf flat) ring)
+      even-found t = stands i (index-here (far tolerance n) (ways (pointsOf flat) ring) i origin (inside h k i l) (sym tells ∙ t)) ∙ e .rest
 
       pub even-next : r ≡ false → Even tolerance n flat ring (i + 1)
       even-next t = past (sym tells ∙ t)
@@ -110,7 +117,7 @@ within-more {flat} {n} {ring} {reach} {i} {j} w l q = record { start = omega (ar
     go k p r (no f) = subst (λ (m : ℕ). offAt flat n ring m ≤ reach) (last k r f) q
 
 -- of four corners, the second tells of all
-pub bent-is : (tolerance : ℕ) {n : Point} {flat : List ℤ} {ring : List ℕ} → Coords flat → Known ring → length ring ≡ 5 → isUnclosed ring ≡ false → n ≡ normal (places (pointsOf flat) ring)
+bent-is : (tolerance : ℕ) {n : Point} {flat : List ℤ} {ring : List ℕ} → Coords flat → Known ring → length ring ≡ 5 → isUnclosed ring ≡ false → n ≡ normal (places (pointsOf flat) ring)
     → exceeds tolerance n (dot n (relativeTo (placeAt flat (getD ring 0 0)) (placeAt flat (getD ring 1 0)))) ≡ isUneven tolerance n (places (pointsOf flat) ring)
 bent-is tolerance {n} {flat} {ring} h k five closed e =
     let way : relativeTo (placeAt flat (getD ring 0 0)) (placeAt flat (getD ring 1 0)) ≡ relativeTo (getD (pointsOf flat) (getD ring 0 0) origin) (getD (pointsOf flat) (getD ring 1 0) origin) =
@@ -120,3 +127,14 @@ bent-is tolerance {n} {flat} {ring} h k five closed e =
     ∙ ap (λ (m : Point). far tolerance m (relativeTo (getD (pointsOf flat) (getD ring 0 0) origin) (getD (pointsOf flat) (getD ring 1 0) origin))) e
     ∙ sym (quad-uneven (pointsOf flat) ring five closed tolerance)
     ∙ ap (λ (m : Point). isUneven tolerance m (places (pointsOf flat) ring)) (sym e)
+
+-- where it is not too far off, no entry is told
+pub bent-none : (tolerance : ℕ) {n : Point} {flat : List ℤ} {ring : List ℕ} → Coords flat → Known ring → length ring ≡ 5 → isUnclosed ring ≡ false → n ≡ normal (places (pointsOf flat) ring)
+    → exceeds tolerance n (dot n (relativeTo (placeAt flat (getD ring 0 0)) (placeAt flat (getD ring 1 0)))) ≡ false → 5 ≡ unevenAt tolerance n (places (pointsOf flat) ring)
+unfolding places
+bent-none tolerance {n} {flat} {ring} h k five closed e t =
+    let ps = places (pointsOf flat) ring in
+    let m : length ps ≡ 5 = length-map ring (λ p. getD (pointsOf flat) p origin) ∙ five in
+    let w = uneven-least tolerance n ps .within in
+    let f = ltb-false (unevenAt tolerance n ps) (length ps) (sym (uneven-is tolerance n ps) ∙ sym (bent-is tolerance h k five closed e) ∙ t) in
+    omega arith

@@ -1,10 +1,10 @@
--- Check 06: how far a point may be off the plane of its ring.
+-- Check 06: how far a point may be off the plane of its ring, and where 06 is met.
 use Prim.Native.Nat.{ℕ}
 use mathlib.Core.Bool.{Bool}
 use mathlib.Core.List.{List}
 use lib.IntN.{ℤ, pos, _+ℤ_, _*ℤ_}
 use lib.Signed.{ltZ}
-use Rattle.whole.specs.Lists.{any}
+use Rattle.whole.specs.Lists.{any, leastIndex}
 use Rattle.space.specs.Space.{Point, dot}
 use Rattle.normal.specs.Normal.{relative}
 
@@ -23,6 +23,10 @@ exceeds tolerance n d = ltZ (square (pos tolerance) *ℤ squares n) (square d)
 unfoldable pub isUneven : ℕ → Point → List Point → Bool
 isUneven tolerance n ps = any (λ p. exceeds tolerance n (dot n p)) (relative ps)
 
+-- document 02 (iii): "for 06 the least failing entry index"; where none fails, how many entries there are
+unfoldable pub unevenAt : ℕ → Point → List Point → ℕ
+unevenAt tolerance n ps = leastIndex (λ p. exceeds tolerance n (dot n p)) (relative ps)
+
 unfoldable pub even-computes : Unit {0}
-unfolding square squares exceeds isUneven
+unfolding square squares exceeds isUneven unevenAt
 even-computes = tt

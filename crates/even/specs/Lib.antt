@@ -1,3 +1,4 @@
 pub mod Even
+pub mod Position
 pub mod held
 pub mod laws

@@ -2,4 +2,5 @@
 pub mod Agree
 pub mod Distance
 pub mod Foot
+pub mod Least
 pub mod Quad

@@ -10,7 +10,7 @@ ghost use Rattle.space.specs.held.Points.{pointsOf, Coords, Known, placeAt, asP
 ghost use mathlib.Core.Bool.{false};
 ghost use Rattle.ring.specs.Entries.{isUnclosed};
 ghost use Rattle.normal.specs.Normal.{normal};
-ghost use Rattle.even.specs.Even.{isUneven, square, squares};
+ghost use Rattle.even.specs.Even.{unevenAt, square, squares};
 ghost use Rattle.even.specs.held.Offs.{largest, Next};
 ghost use lib.Dec.{leb, ltb};
 ghost use Rattle.wide.specs.Value.{value};
@@ -99,46 +99,46 @@ fn next_off(points: &[i32; 1536], ring: &[u16], n: Place, i: usize, reach: u64) 
     j
 }
 
-// 06: "the square of N·(p - first) exceeds tolerance squared times the sum of the squares of N's components", for some p. The
-// limit is made once, and not at all where every entry is within the reach.
-pub fn is_uneven(points: &[i32; 1536], ring: &[u16], tolerance: u16, n: Place) -> bool
+// 06: the least entry p for which "the square of N·(p - first) exceeds tolerance squared times the sum of the squares of N's
+// components", or the ring's length. The limit is made once, and not at all where every entry is within the reach.
+pub fn first_uneven(points: &[i32; 1536], ring: &[u16], tolerance: u16, n: Place) -> usize
     requires { ⌜ Coords (now points) ⌝ }
     requires { ⌜ Known (now ring) ⌝ }
     requires { ⌜ (1 ≤ length (now ring)) × (tolerance ≤ 1000) ⌝ }
     requires { ⌜ Near 10160000000000 (asPoint n) ⌝ }
-    ensures { λ r. ⌜ r ≡ isUneven tolerance (asPoint n) (places (pointsOf (now (points .entry))) (now (ring .entry))) ⌝ }
+    ensures { λ r. ⌜ r ≡ unevenAt tolerance (asPoint n) (places (pointsOf (now (points .entry))) (now (ring .entry))) ⌝ }
 {
     let reach = reach_of(tolerance, n);
     let mut i = next_off(points, ring, n, 0, reach);
     if i == ring.len() {
-        return false;
+        return i;
     }
     let limit = limit_of(tolerance, n);
     let first = ring[0];
     while i < ring.len() {
         if is_beyond(off(points, n, first, ring[i]), limit) {
-            return true;
+            return i;
         }
         i = next_off(points, ring, n, i + 1, reach);
     }
-    false
+    i
 }
 
 // 06 of a closed ring whose normal is n. Of four corners the second and the fourth are equally far off, and the third is not off:
 // where the second is within the reach, all are.
-pub fn is_uneven_closed(points: &[i32; 1536], ring: &[u16], tolerance: u16, n: Place) -> bool
+pub fn first_uneven_closed(points: &[i32; 1536], ring: &[u16], tolerance: u16, n: Place) -> usize
     requires { ⌜ Coords (now points) ⌝ }
     requires { ⌜ Known (now ring) ⌝ }
     requires { ⌜ (1 ≤ length (now ring)) × (isUnclosed (now ring) ≡ false) × (tolerance ≤ 1000) ⌝ }
     requires { ⌜ asPoint n ≡ normal (places (pointsOf (now points)) (now ring)) ⌝ }
-    ensures { λ r. ⌜ r ≡ isUneven tolerance (asPoint n) (places (pointsOf (now (points .entry))) (now (ring .entry))) ⌝ }
+    ensures { λ r. ⌜ r ≡ unevenAt tolerance (asPoint n) (places (pointsOf (now (points .entry))) (now (ring .entry))) ⌝ }
 {
     if ring.len() == 5 {
         let first = ring[0];
         let second = ring[1];
         if is_near(points, n, tolerance, first, second) {
-            return false;
+            return 5;
         }
     }
-    is_uneven(points, ring, tolerance, n)
+    first_uneven(points, ring, tolerance, n)
 }

@@ -9,7 +9,7 @@ use borrow.Author.Count.{below-more}
 use lib.ListN.{length, getD, set, length-set}
 use Rattle.words.specs.held.Words.{stepOf}
 use Rattle.reach.specs.held.Marking.{Blank}
-use Rattle.whole.specs.held.Least.{LeastBelow}
+use Rattle.whole.specs.Least.{LeastBelow}
 use Rattle.links.specs.held.Linking.{Pointed, Seeds, Cut}
 use Rattle.reach.specs.laws.Sweeps.{at-set}
 

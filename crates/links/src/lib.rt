@@ -5,7 +5,7 @@ ghost use Prim.Native.Nat.{_+_, _<_, _≤_, max};
 ghost use lib.ListN.{length};
 ghost use Rattle.words.specs.held.Words.{stepOf, nextOf, dirOf};
 ghost use Rattle.reach.specs.held.Marking.{Marks, Marked, Swept, Flooded, Blank};
-ghost use Rattle.whole.specs.held.Least.{LeastBelow};
+ghost use Rattle.whole.specs.Least.{LeastBelow};
 ghost use Rattle.links.specs.held.Linking.{Linked, Joins, Pointed, Seeds, Cut, Unlinks, Selves, Nodes, Links, Lone, Crossed, Onward, Walked, Traced};
 
 // Marks both of two nodes where one is marked; 1 where the other was not.

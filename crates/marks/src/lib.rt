@@ -2,7 +2,7 @@
 
 ghost use mathlib.Core.Path.{_≡_};
 ghost use Rattle.space.specs.held.Points.{Known};
-ghost use Rattle.ring.specs.Entries.{isRepeated, repeatedAt};
+ghost use Rattle.ring.specs.Entries.{repeatedAt};
 
 fn wide(x: u16) -> usize
     ensures { λ r. ⌜ r ≡ x ⌝ }
@@ -32,12 +32,4 @@ pub fn first_repeated(ring: &[u16]) -> usize
         i += 1;
     }
     i
-}
-
-// 03: "with the last entry left aside, some number stands twice"
-pub fn is_repeated(ring: &[u16]) -> bool
-    requires { ⌜ Known (now ring) ⌝ }
-    ensures { λ r. ⌜ r ≡ isRepeated (now (ring .entry)) ⌝ }
-{
-    first_repeated(ring) + 1 < ring.len()
 }

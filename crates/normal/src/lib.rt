@@ -43,7 +43,7 @@ fn plus(p: Place, q: Place) -> Place
 
 // "the normal N is the sum, over consecutive entries, of the cross product of the two". Each entry's way from the first is
 // found once, and kept for the next step.
-fn normal(points: &[i32; 1536], ring: &[u16]) -> Place
+pub fn normal(points: &[i32; 1536], ring: &[u16]) -> Place
     requires { ⌜ Coords (now points) ⌝ }
     requires { ⌜ Known (now ring) ⌝ }
     requires { ⌜ 1 ≤ length (now ring) ⌝ }

@@ -13,7 +13,7 @@ use Rattle.space.specs.declared.Axis.{Axis}
 use Rattle.space.specs.Space.{places}
 use Rattle.plane.specs.Plane.{Spot, dropAxis}
 use Rattle.polygon.specs.Ring.{edgesIn}
-use Rattle.crossing.specs.Crossed.{isCrossed}
+use Rattle.crossing.specs.Crossed.{crossedAt}
 use Rattle.space.specs.held.Points.{pointsOf, Coords, Known}
 use Rattle.plane.specs.held.Edges.{spot, edgeAt}
 use Rattle.crossing.specs.held.Columns.{Spread}
@@ -79,9 +79,9 @@ module _ {flat : List ℤ} {ring : List ℕ} {j k n : ℕ} {us vs : List ℤ} (h
           tab-at (edgeAt us vs) (length ring - 1) i (nowhere, nowhere) m
           ∙ sym (steps-at spots i (nowhere, nowhere) nowhere (omega (arith, spots-length)) ∙ (λ t. (spot-is i (omega arith) t, spot-is (i + 1) (omega arith) t)))
 
-  pub crossed-is : isCrossed (tab (edgeAt us vs) (length ring - 1)) ≡ isCrossed (steps (seenSpots flat ring j k))
+  pub crossed-is : crossedAt (tab (edgeAt us vs) (length ring - 1)) ≡ crossedAt (steps (seenSpots flat ring j k))
   unfolding spots
-  crossed-is = ap isCrossed edges-are
+  crossed-is = ap crossedAt edges-are
 
 -- ---- the plane left by dropping an axis
 pub seen-is : {flat : List ℤ} → Coords flat → (axis : Axis) (ring : List ℕ) → ((i : ℕ) → i < length ring → getD ring i 0 < 512)
@@ -92,6 +92,6 @@ seen-is {flat} h axis (p ∷ ring) k =
     ap₂ (λ (s : Spot) (l : List Spot). s ∷ l) (drop-is axis flat p ∙ ap (dropAxis axis) (sym (point-at h p (k 0 (omega arith))))) (seen-is h axis ring (λ i l. k (suc i) (omega arith)))
 
 pub in-plane : {flat : List ℤ} {ring : List ℕ} → Coords flat → Known ring → (axis : Axis)
-    → isCrossed (steps (seenSpots flat ring (uOf axis) (vOf axis))) ≡ isCrossed (edgesIn axis (places (pointsOf flat) ring))
+    → crossedAt (steps (seenSpots flat ring (uOf axis) (vOf axis))) ≡ crossedAt (edgesIn axis (places (pointsOf flat) ring))
 unfolding edgesIn
-in-plane {flat} {ring} h k axis = ap (λ (l : List Spot). isCrossed (steps l)) (seen-is h axis ring (k .each))
+in-plane {flat} {ring} h k axis = ap (λ (l : List Spot). crossedAt (steps l)) (seen-is h axis ring (k .each))

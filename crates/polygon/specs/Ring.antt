@@ -1,4 +1,4 @@
--- One polygon: check 01, and its finding, the first of checks 01 to 06 that fails.
+-- One polygon: check 01, and its finding, the first of checks 01 to 06 that fails, with its position.
 use Prim.Native.Nat.{ℕ}
 use mathlib.Core.Bool.{Bool}
 use mathlib.Core.List.{List, [], _∷_, map}
@@ -10,9 +10,9 @@ use Rattle.polygon.specs.declared.Finding.{Finding}
 use Rattle.polygon.specs.declared.Finding.the-variants.{Sound, Short, Unclosed, Repeated, NoNormal, Crossed, Uneven}
 use Rattle.space.specs.Space.{Point, places}
 use Rattle.plane.specs.Plane.{largestAxis, dropAxis, Segment}
-use Rattle.even.specs.Even.{isUneven, even-computes}
-use Rattle.crossing.specs.Crossed.{isCrossed, crossed-computes}
-use Rattle.ring.specs.Entries.{isRepeated, isUnclosed, entries-compute}
+use Rattle.even.specs.Even.{isUneven, unevenAt, even-computes}
+use Rattle.crossing.specs.Crossed.{isCrossed, crossedAt, crossed-computes}
+use Rattle.ring.specs.Entries.{isRepeated, repeatedAt, isUnclosed, entries-compute}
 use Rattle.normal.specs.Normal.{isZero, normal, normal-computes}
 use Rattle.volume.specs.Part.{part-computes}
 
@@ -21,10 +21,20 @@ unfoldable pub findingNumber : Finding → ℕ
 findingNumber Sound = 0
 findingNumber Short = 1
 findingNumber Unclosed = 2
-findingNumber Repeated = 3
+findingNumber (Repeated i) = 3
 findingNumber NoNormal = 4
-findingNumber Crossed = 5
-findingNumber Uneven = 6
+findingNumber (Crossed i) = 5
+findingNumber (Uneven i) = 6
+
+-- document 02 (iii): "A polygon's finding shall carry a position: for 03 .. for 05 .. for 06 ..; else 0."
+unfoldable pub findingPosition : Finding → ℕ
+findingPosition Sound = 0
+findingPosition Short = 0
+findingPosition Unclosed = 0
+findingPosition (Repeated i) = i
+findingPosition NoNormal = 0
+findingPosition (Crossed i) = i
+findingPosition (Uneven i) = i
 
 -- 01: "the ring has fewer than 4 entries"
 unfoldable pub isShort : List ℕ → Bool
@@ -34,20 +44,21 @@ isShort ring = ltb (length ring) 4
 unfoldable pub edgesIn : Axis → List Point → List Segment
 edgesIn axis ps = steps (map (dropAxis axis) ps)
 
--- "A polygon's finding is the first of checks 01 to 06 that fails."
+-- "A polygon's finding is the first of checks 01 to 06 that fails.", with where it is met
 unfoldable pub finding : ℕ → List Point → List ℕ → Finding
 finding tolerance points ring =
     let ps = places points ring in
     let n = normal ps in
+    let es = edgesIn (largestAxis n) ps in
     first Sound
     (given (isShort ring) Short ∷
     given (isUnclosed ring) Unclosed ∷
-    given (isRepeated ring) Repeated ∷
+    given (isRepeated ring) (Repeated (repeatedAt ring)) ∷
     given (isZero n) NoNormal ∷
-    given (isCrossed (edgesIn (largestAxis n) ps)) Crossed ∷
-    given (isUneven tolerance n ps) Uneven ∷
+    given (isCrossed es) (Crossed (crossedAt es)) ∷
+    given (isUneven tolerance n ps) (Uneven (unevenAt tolerance n ps)) ∷
     [])
 
 unfoldable pub ring-computes : Unit {0}
-unfolding findingNumber isShort edgesIn finding entries-compute normal-computes crossed-computes even-computes part-computes
+unfolding findingNumber findingPosition isShort edgesIn finding entries-compute normal-computes crossed-computes even-computes part-computes
 ring-computes = tt

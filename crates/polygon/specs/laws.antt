@@ -5,6 +5,7 @@ pub mod Examples
 pub mod Fan
 pub mod FromNormal
 pub mod Kept
+pub mod Position
 pub mod Taken
 pub mod Triangle
 pub mod TurnFinding

@@ -1,9 +1,9 @@
-// Check 05: a ring's places in two columns, those of the plane left by dropping an axis.
+// Check 05 and where it is met: a ring's places in two columns, those of the plane left by dropping an axis.
 use space::Axis;
 ghost use mathlib.Core.Path.{_≡_};
 ghost use Prim.Native.Nat.{_≤_};
 ghost use lib.ListN.{length};
-ghost use Rattle.crossing.specs.Crossed.{isCrossed};
+ghost use Rattle.crossing.specs.Crossed.{crossedAt};
 ghost use Rattle.polygon.specs.Ring.{edgesIn};
 ghost use Rattle.whole.specs.Lists.{steps};
 ghost use Rattle.space.specs.Space.{places};
@@ -26,39 +26,39 @@ fn fill(points: &[i32; 1536], ring: &[u16], k: usize, room: &mut [i64])
 }
 
 // 05 of a ring that fits small room, in the plane of coordinates j and k: most rings are such, and large room costs more to clear.
-fn crossed_few(points: &[i32; 1536], ring: &[u16], j: usize, k: usize) -> bool
+fn crossed_few(points: &[i32; 1536], ring: &[u16], j: usize, k: usize) -> usize
     requires { ⌜ Coords (now points) ⌝ }
     requires { ⌜ Known (now ring) ⌝ }
     requires { ⌜ (1 ≤ length (now ring)) × (length (now ring) ≤ 8) × (j ≤ 2) × (k ≤ 2) ⌝ }
-    ensures { λ r. ⌜ r ≡ isCrossed (steps (seenSpots (now (points .entry)) (now (ring .entry)) j k)) ⌝ }
+    ensures { λ r. ⌜ r ≡ crossedAt (steps (seenSpots (now (points .entry)) (now (ring .entry)) j k)) ⌝ }
 {
     let mut us: [i64; 8] = [0; 8];
     let mut vs: [i64; 8] = [0; 8];
     fill(points, ring, j, &mut us);
     fill(points, ring, k, &mut vs);
-    crossing::crossings(&us, &vs, ring.len() - 1)
+    crossing::first_crossed(&us, &vs, ring.len() - 1)
 }
 
 // 05 of any ring, in the plane of coordinates j and k.
-fn crossed_many(points: &[i32; 1536], ring: &[u16], j: usize, k: usize) -> bool
+fn crossed_many(points: &[i32; 1536], ring: &[u16], j: usize, k: usize) -> usize
     requires { ⌜ Coords (now points) ⌝ }
     requires { ⌜ Known (now ring) ⌝ }
     requires { ⌜ (2 ≤ length (now ring)) × (length (now ring) ≤ 128) × (j ≤ 2) × (k ≤ 2) ⌝ }
-    ensures { λ r. ⌜ r ≡ isCrossed (steps (seenSpots (now (points .entry)) (now (ring .entry)) j k)) ⌝ }
+    ensures { λ r. ⌜ r ≡ crossedAt (steps (seenSpots (now (points .entry)) (now (ring .entry)) j k)) ⌝ }
 {
     let mut us: [i64; 128] = [0; 128];
     let mut vs: [i64; 128] = [0; 128];
     fill(points, ring, j, &mut us);
     fill(points, ring, k, &mut vs);
-    boxes::crossings_many(&us, &vs, ring.len() - 1)
+    boxes::first_crossed(&us, &vs, ring.len() - 1)
 }
 
 // 05 in the plane of coordinates j and k.
-fn crossed_in(points: &[i32; 1536], ring: &[u16], j: usize, k: usize) -> bool
+fn crossed_in(points: &[i32; 1536], ring: &[u16], j: usize, k: usize) -> usize
     requires { ⌜ Coords (now points) ⌝ }
     requires { ⌜ Known (now ring) ⌝ }
     requires { ⌜ (1 ≤ length (now ring)) × (j ≤ 2) × (k ≤ 2) ⌝ }
-    ensures { λ r. ⌜ r ≡ isCrossed (steps (seenSpots (now (points .entry)) (now (ring .entry)) j k)) ⌝ }
+    ensures { λ r. ⌜ r ≡ crossedAt (steps (seenSpots (now (points .entry)) (now (ring .entry)) j k)) ⌝ }
 {
     if ring.len() <= 8 {
         return crossed_few(points, ring, j, k);
@@ -66,12 +66,12 @@ fn crossed_in(points: &[i32; 1536], ring: &[u16], j: usize, k: usize) -> bool
     crossed_many(points, ring, j, k)
 }
 
-// 05 in the plane left by dropping an axis.
-pub fn is_crossed(points: &[i32; 1536], ring: &[u16], axis: Axis) -> bool
+// 05 in the plane left by dropping an axis: the least edge that has a forbidden meeting, or how many edges there are.
+pub fn first_crossed(points: &[i32; 1536], ring: &[u16], axis: Axis) -> usize
     requires { ⌜ Coords (now points) ⌝ }
     requires { ⌜ Known (now ring) ⌝ }
     requires { ⌜ 1 ≤ length (now ring) ⌝ }
-    ensures { λ r. ⌜ r ≡ isCrossed (edgesIn axis (places (pointsOf (now (points .entry))) (now (ring .entry)))) ⌝ }
+    ensures { λ r. ⌜ r ≡ crossedAt (edgesIn axis (places (pointsOf (now (points .entry))) (now (ring .entry)))) ⌝ }
 {
     match axis {
         Axis::X => crossed_in(points, ring, 1, 2),

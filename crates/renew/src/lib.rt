@@ -11,7 +11,7 @@ pub fn refresh(
     points: &[i32; 1536],
     entries: &[u16; 1024],
     starts: &[u16; 257],
-    findings: &mut [u8; 256],
+    findings: &mut [u16; 256],
     parts: &mut [i64; 256],
     tolerance: u16,
     p: usize,
@@ -26,8 +26,8 @@ pub fn refresh(
     let all = &entries[..];
     let ring = &all[from..to];
     let look = polygon::look_at(points, ring, tolerance);
-    let finding = look.finding;
+    let kept = look.kept;
     let part = look.part;
-    findings[p] = building::finding_number(finding);
+    findings[p] = kept;
     parts[p] = part;
 }

@@ -22,7 +22,7 @@ fn one(
     entries: &mut [u16; 1024],
     starts: &mut [u16; 257],
     stamps: &mut [u32; 256],
-    findings: &mut [u8; 256],
+    findings: &mut [u16; 256],
     parts: &mut [i64; 256],
     table: &mut [u64; 1024],
     turned: &mut [u8; 256],
@@ -118,7 +118,13 @@ fn fresh_stamps() -> [u32; 256]
     [0; 256]
 }
 
-fn fresh_bytes() -> [u8; 256]
+fn fresh_findings() -> [u16; 256]
+    ensures { λ r. ⌜ length r ≡ 256 ⌝ }
+{
+    [0; 256]
+}
+
+fn fresh_turned() -> [u8; 256]
     ensures { λ r. ⌜ length r ≡ 256 ⌝ }
 {
     [0; 256]
@@ -165,10 +171,10 @@ pub fn all(stream: &[u8], room: &mut [u8]) -> usize
     let mut entries = fresh_entries();
     let mut starts = fresh_starts();
     let mut stamps = fresh_stamps();
-    let mut findings = fresh_bytes();
+    let mut findings = fresh_findings();
     let mut parts = fresh_parts();
     let mut table = fresh_table();
-    let mut turned = fresh_bytes();
+    let mut turned = fresh_turned();
     let mut d = idle();
     let mut from = 0;
     while from < stream.len() {

@@ -3,33 +3,33 @@ use building::Scalars;
 use building::Verdict;
 use polygon::Finding;
 ghost use mathlib.Core.Path.{_≡_};
-ghost use Prim.Native.Nat.{_+_, _≤_};
+ghost use Prim.Native.Nat.{_/_, _%_, _≤_};
 ghost use lib.Dec.{ltb};
 ghost use lib.ListN.{length, take};
 ghost use Rattle.whole.specs.Lists.{tally, sumOf};
-ghost use Rattle.polygon.specs.Ring.{findingNumber};
+ghost use Rattle.polygon.specs.held.Findings.{findingOf};
 ghost use Rattle.building.specs.Report.{verdict};
 ghost use Rattle.building.specs.held.Holds.{heldTables, Loaded, Kept};
 ghost use Rattle.totals.specs.held.Scans.{lowest};
 
-// The finding of a number.
-fn finding_from(n: u8) -> Finding
-    requires { ⌜ n ≤ 6 ⌝ }
-    ensures { λ r. ⌜ findingNumber r ≡ n ⌝ }
+// The finding that is kept so.
+fn finding_from(kept: u16) -> Finding
+    ensures { λ r. ⌜ r ≡ findingOf (kept % 16) (kept / 16) ⌝ }
 {
-    match n {
+    let at = kept / 16;
+    match kept % 16 {
         0 => Finding::Sound,
         1 => Finding::Short,
         2 => Finding::Unclosed,
-        3 => Finding::Repeated,
+        3 => Finding::Repeated(at),
         4 => Finding::NoNormal,
-        5 => Finding::Crossed,
-        _ => Finding::Uneven,
+        5 => Finding::Crossed(at),
+        _ => Finding::Uneven(at),
     }
 }
 
 // The lowest of the first n polygons that has a finding; n if there is none.
-fn lowest_of(findings: &[u8; 256], n: usize) -> usize
+fn lowest_of(findings: &[u16; 256], n: usize) -> usize
     requires { ⌜ (n ≤ 256) × (length (now findings) ≡ 256) ⌝ }
     ensures { λ r. ⌜ r ≡ lowest (take n (now (findings .entry))) ⌝ }
 {
@@ -49,7 +49,7 @@ pub fn verdict_of(
     points: &[i32; 1536],
     entries: &[u16; 1024],
     starts: &[u16; 257],
-    findings: &[u8; 256],
+    findings: &[u16; 256],
     parts: &[i64; 256],
     table: &[u64; 1024],
     turned: &[u8; 256],

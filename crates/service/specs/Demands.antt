@@ -16,7 +16,10 @@ use Rattle.frame.specs.Encode.{encode}
 use Rattle.lines.specs.Lines.{lines, ended, joined}
 use Rattle.answer.specs.Answer.{plain, reported, told}
 use Rattle.polygon.specs.declared.Finding.the-variants.{Sound}
-use Rattle.polygon.specs.Ring.{finding, findingNumber}
+use Rattle.polygon.specs.Ring.{finding, findingNumber, findingPosition}
+use Rattle.polygon.specs.Position.{Position}
+use Rattle.polygon.specs.laws.Position.{position-is}
+use Rattle.space.specs.Space.{Point}
 use Rattle.volume.specs.Part.{part}
 use Rattle.shell.specs.declared.Shape.the-variants.{Few, Once, Often, Alike, Apart, Unlinked}
 use Rattle.edges.specs.Edges.{smaller, larger, usedOnce, usedOften, usedAlike}
@@ -76,7 +79,7 @@ pub room-kept : (stream room : List ℕ) → length (served stream room .room) �
 room-kept = R.room-length
 
 -- ---- 2. The verdict, the element named, the number of polygons with a finding, each polygon's own finding and volume part, and the six-volume
--- are those of the thirteen checks, 06 by true distance (request (ii) of document 02)
+-- are those of the thirteen checks, 06 by true distance (request (ii) of document 02), with the position of 03, 05 and 06 (request (iii))
 
 -- what a report answers
 pub reports : (t : Tables) → reportOf t ≡ reported (checkNumber (verdict t)) (elementA (verdict t)) (elementB (verdict t)) (tally isFault (findings t)) (sixVolume t)
@@ -84,9 +87,14 @@ unfolding reportOf report
 reports t = refl
 
 -- what a question answers
-pub tells : (n : ℕ) (b : Building) → toldOf n b ≡ told (findingNumber (finding (b .tables .tolerance) (b .tables .points) (getD (b .tables .polygons) n []))) (getD (b .stamps) n 0) (part (b .tables .points) (getD (b .tables .polygons) n []))
+pub tells : (n : ℕ) (b : Building) → let t = b .tables in let ring = getD (t .polygons) n [] in let f = finding (t .tolerance) (t .points) ring in
+    toldOf n b ≡ told (findingNumber f) (findingPosition f) (getD (b .stamps) n 0) (part (t .points) ring)
 unfolding toldOf
 tells n b = refl
+
+-- document 02 (iii): "A polygon's finding shall carry a position": what it says, by the number beside it
+pub position : (tolerance : ℕ) (points : List Point) (ring : Polygon) → Position tolerance points ring (finding tolerance points ring)
+position = position-is
 
 -- "a building is accepted exactly when none of the thirteen fails"
 pub accepted-only : (t : Tables) → verdict t ≡ Accepted → NoneOfThirteen t
@@ -108,6 +116,13 @@ pub lowest-polygon : (t : Tables) (done : List Polygon) (ring : Polygon) (rest :
     → All (λ (r : Polygon). finding (t .tolerance) (t .points) r ≡ Sound) done → isFault (finding (t .tolerance) (t .points) ring) ≡ true
     → verdict t ≡ Faulty (length done) (finding (t .tolerance) (t .points) ring)
 lowest-polygon = named-polygon
+
+-- document 02 (iii): "Reports show the position as element b for these checks, in place of 0."
+pub position-reported : (t : Tables) (done : List Polygon) (ring : Polygon) (rest : List Polygon) → t .polygons ≡ done ++ ring ∷ rest
+    → All (λ (r : Polygon). finding (t .tolerance) (t .points) r ≡ Sound) done → isFault (finding (t .tolerance) (t .points) ring) ≡ true
+    → elementB (verdict t) ≡ findingPosition (finding (t .tolerance) (t .points) ring)
+unfolding elementB
+position-reported t done ring rest e a f = ap elementB (lowest-polygon t done ring rest e a f)
 
 -- and where no polygon has a finding, each of 07 to 0D where none before it fails
 module _ (t : Tables) (each : All (λ (r : Polygon). finding (t .tolerance) (t .points) r ≡ Sound) (t .polygons)) where
@@ -154,7 +169,7 @@ module _ (before : List (List ℕ)) (end : List ℕ) (since : List (List ℕ)) (
       → step (held before end since) l .answer ≡ reportOf (correctedBy before (since ++ (l ∷ [])))
   told-report l = correction-report before end since l s
 
-  -- "and so do each polygon's own finding and volume part"
+  -- "and so do each polygon's own finding and volume part"; document 02 (iii): "Demand 3 covers the position."
   pub same-polygon : (l : List ℕ) (n : ℕ) → decode l ≡ question n → accepts (held before end since) l ≡ true
       → SameButStamp (step (held before end since) l .answer) (step (freshHeld (correctedBy before since)) l .answer)
   same-polygon = question-fresh before end since s
@@ -220,7 +235,7 @@ module _ (stream room : List ℕ) (code : ℤ) (room′ : List ℕ) (returned : 
       pub code-corrected : accepts (held before end since) l ≡ true → isCorrection (decode l) ≡ true → Stands (before ++ end ∷ since) (reportOf (correctedBy before (since ++ (l ∷ [])))) room′
       code-corrected t k = subst (λ (q : List ℕ). Stands (before ++ end ∷ since) q room′) (told-report before end since s l t k) here
 
-      -- an accepted question with the finding and the part of the corrected tables, and the stamp that the span's corrections give;
+      -- an accepted question with the finding, its position and the part of the corrected tables, and the stamp that the span's corrections give;
       pub code-question : (n : ℕ) → decode l ≡ question n → accepts (held before end since) l ≡ true
           → Stands (before ++ end ∷ since) (toldIn (correctedBy before since) n (stampOf (correctionsOf before since) n (getD (loadedBy before .polygons) n []))) room′
       code-question n d t = subst (λ (q : List ℕ). Stands (before ++ end ∷ since) q room′) (question-told before end since s l n d t) here

@@ -1,4 +1,4 @@
--- The stream of document 01, and its examples marked P.
+-- The stream of document 01, its examples marked P, and those of document 02.
 use Prim.Native.Nat.{ℕ}
 use mathlib.Core.List.{map, reverse, List, [], _∷_, _++_}
 use mathlib.Core.Path.{_≡_, refl}
@@ -9,7 +9,7 @@ use Rattle.hex.specs.Hex.{hex-computes}
 use Rattle.frame.specs.Frame.{frame-computes}
 use Rattle.answer.specs.Answer.{answer-computes}
 use Rattle.polygon.specs.declared.Finding.{Finding}
-use Rattle.polygon.specs.declared.Finding.the-variants.{Sound, Short, Unclosed, NoNormal, Crossed, Uneven}
+use Rattle.polygon.specs.declared.Finding.the-variants.{Sound, Short, Unclosed, Repeated, NoNormal, Crossed, Uneven}
 use Rattle.space.specs.Space.{Point, space-computes}
 use Rattle.polygon.specs.Ring.{finding, ring-computes}
 use Rattle.volume.specs.Part.{part}
@@ -20,7 +20,7 @@ use Rattle.reach.specs.Reach.{reach-computes}
 use Rattle.shell.specs.Shell.{shell-computes}
 use Rattle.places.specs.Points.{points-compute}
 use Rattle.building.specs.declared.Verdict.{Verdict}
-use Rattle.building.specs.declared.Verdict.the-variants.{Accepted, Unsound, Inward}
+use Rattle.building.specs.declared.Verdict.the-variants.{Accepted, Faulty, Unsound, Inward}
 use Rattle.building.specs.Tables.{Tables, Polygon, tables-compute}
 use Rattle.building.specs.Report.{Report, report, report-computes}
 use Rattle.service.specs.Service.{service-computes}
@@ -39,11 +39,24 @@ input = bytes "010000\n02000000000000000000000000\n02000003E80000000000000000\n0
 -- "Output: nine lines `00`, then"
 abbrev pub output : List ℕ
 unfolding bytes
-output = bytes "00\n00\n00\n00\n00\n00\n00\n00\n00\n0000000000000000000000003B9ACA00\n00000000000000000000000077359400\n07\n0000000000000000000000000000\n0000000000050000000077359400\n000A000100020000FFFFFFFF88CA6C00\n"
+output = bytes "00\n00\n00\n00\n00\n00\n00\n00\n00\n0000000000000000000000003B9ACA00\n00000000000000000000000077359400\n07\n00000000000000000000000000000000\n00000000000000050000000077359400\n000A000100020000FFFFFFFF88CA6C00\n"
 
 pub worked-stream : answers input ≡ output
 unfolding everything-computes
 worked-stream = refl
+
+-- a stream of document 02 (iii): the bow tie's edges 0 and 2 cross; turned, those are its edges 3 and 1
+abbrev pub turnedInput : List ℕ
+unfolding bytes
+turnedInput = bytes "010000\n02000000000000000000000000\n02000003E8000003E800000000\n02000003E80000000000000000\n0200000000000007D000000000\n0300000001000200030000\n04\n070000\n06000000010000\n070000\n"
+
+abbrev pub turnedOutput : List ℕ
+unfolding bytes
+turnedOutput = bytes "00\n00\n00\n00\n00\n00\n00050000000000010000000000000000\n00050000000000000000000000000000\n00050000000100010000000000000000\n00050001000000010000000000000000\n"
+
+pub turned-stream : answers turnedInput ≡ turnedOutput
+unfolding everything-computes
+turned-stream = refl
 
 -- ---- "Examples at the edges"
 
@@ -110,14 +123,17 @@ abbrev pub All : List Example → Type 0
 All [] = Unit {0}
 All (e ∷ es) = Claim e × All es
 
--- the examples marked P, and the ring of request (ii); and an open ring, of which turning does not negate the part
+-- the examples marked P, with the positions of request (iii), the ring of request (ii), rings for (iii); and an open ring, of which turning does not negate the part
 abbrev pub examples : List Example
 examples =
     ring 10 (tilted 20) four Sound ∷
-    ring 10 (tilted 21) four Uneven ∷
+    ring 10 (tilted 21) four (Uneven 1) ∷
     ring 10 steep four Sound ∷
     ring 0 (bowTie 1000) four NoNormal ∷
-    ring 0 (bowTie 2000) four Crossed ∷
+    ring 0 (bowTie 2000) four (Crossed 0) ∷
+    ring 0 (bowTie 2000) (reverse four) (Crossed 1) ∷
+    ring 0 corners (0 ∷ 1 ∷ 2 ∷ 2 ∷ 1 ∷ 0 ∷ []) (Repeated 3) ∷
+    ring 0 corners (0 ∷ 1 ∷ 2 ∷ 0 ∷ 0 ∷ []) (Repeated 3) ∷
     ring 0 corners [] Short ∷
     ring 0 corners (0 ∷ 1 ∷ 0 ∷ []) Short ∷
     ring 0 corners (0 ∷ 1 ∷ 2 ∷ 3 ∷ []) Unclosed ∷
@@ -125,10 +141,11 @@ examples =
     building (map reverse tetrahedron) (says Inward (negsuc 999999999)) ∷
     building three (says (Unsound (Few 3)) (pos 0)) ∷
     building [] (says (Unsound (Few 0)) (pos 0)) ∷
+    building ((0 ∷ 1 ∷ 2 ∷ 1 ∷ 0 ∷ []) ∷ []) (record { check = Faulty 0 (Repeated 3); faults = 1; volume = pos 0 }) ∷
     parted uneven unclosed (negsuc 41) ∷
     parted uneven (reverse unclosed) (pos 0) ∷
     []
 
 pub examples-hold : All examples
 unfolding everything-computes
-examples-hold = (refl, (refl, (refl, (refl, (refl, (refl, (refl, (refl, (refl, (refl, (refl, (refl, (refl, (refl, tt))))))))))))))
+examples-hold = (refl, (refl, (refl, (refl, (refl, (refl, (refl, (refl, (refl, (refl, (refl, (refl, (refl, (refl, (refl, (refl, (refl, (refl, tt))))))))))))))))))

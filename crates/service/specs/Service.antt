@@ -7,7 +7,7 @@ use lib.ListN.{length, getD}
 use Rattle.whole.specs.Lists.{given, first, any}
 use Rattle.frame.specs.Frame.{Frame, begin, point, polygon, end-of-load, move, turn, question, broken, decode}
 use Rattle.answer.specs.Answer.{plain, reported, told}
-use Rattle.polygon.specs.Ring.{finding, findingNumber}
+use Rattle.polygon.specs.Ring.{finding, findingNumber, findingPosition}
 use Rattle.volume.specs.Part.{part}
 use Rattle.places.specs.Points.{isFar, stands, standsElse}
 use Rattle.building.specs.Tables.{Tables, Building, begun, withPoint, withPolygon, entries, loaded, moved, turned}
@@ -169,12 +169,13 @@ reportOf t =
     let r = report t in
     reported (checkNumber (r .check)) (elementA (r .check)) (elementB (r .check)) (r .faults) (r .volume)
 
--- a polygon's finding, stamp and part, as they are answered
+-- a polygon's finding with its position, its stamp and its part, as they are answered
 unfoldable pub toldOf : ℕ → Building → List ℕ
 toldOf n b =
     let t = b .tables in
     let ring = getD (t .polygons) n [] in
-    told (findingNumber (finding (t .tolerance) (t .points) ring)) (getD (b .stamps) n 0) (part (t .points) ring)
+    let f = finding (t .tolerance) (t .points) ring in
+    told (findingNumber f) (findingPosition f) (getD (b .stamps) n 0) (part (t .points) ring)
 
 -- what is answered to an accepted frame, of what is held after it
 unfoldable pub answerTo : Frame → State → List ℕ

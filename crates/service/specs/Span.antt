@@ -7,7 +7,7 @@ use lib.ListN.{getD}
 use lib.IntN.{ℤ}
 use Rattle.frame.specs.Frame.{Frame, begin, point, polygon, end-of-load, move, turn, question, broken, decode}
 use Rattle.answer.specs.Answer.{told}
-use Rattle.polygon.specs.Ring.{finding, findingNumber}
+use Rattle.polygon.specs.Ring.{finding, findingNumber, findingPosition}
 use Rattle.volume.specs.Part.{part}
 use Rattle.building.specs.Corrections.{Correction, corrected}
 use Rattle.building.specs.Tables.{Tables, loaded}
@@ -89,12 +89,16 @@ pub data Numbered : Frame → ℕ → Type 0 where
 
 -- what is answered about polygon n of tables, with that stamp
 abbrev pub toldIn : Tables → ℕ → ℕ → List ℕ
-toldIn t n stamp = told (findingNumber (finding (t .tolerance) (t .points) (getD (t .polygons) n []))) stamp (part (t .points) (getD (t .polygons) n []))
+toldIn t n stamp =
+    let ring = getD (t .polygons) n [] in
+    let f = finding (t .tolerance) (t .points) ring in
+    told (findingNumber f) (findingPosition f) stamp (part (t .points) ring)
 
--- two answers about a polygon that agree in its finding and its part
+-- two answers about a polygon that agree in its finding, the position and its part
 pub record SameButStamp (answer fresh : List ℕ) : Type 0 where
   pub found : ℕ
+  pub position : ℕ
   pub stamp : ℕ
   pub part-is : ℤ
-  pub here : answer ≡ told found stamp part-is
-  pub there : fresh ≡ told found 0 part-is
+  pub here : answer ≡ told found position stamp part-is
+  pub there : fresh ≡ told found position 0 part-is

@@ -1,11 +1,12 @@
 -- Five wrong checkers, and that none of them satisfies the statement of the entry: each fails on the stream of document 01.
 use Prim.Native.Nat.{ℕ}
 use mathlib.Core.Path.{_≡_, refl, sym, ap, _∙_}
-use mathlib.Core.Bool.{Bool, true, false, cond, true≢false}
+use mathlib.Core.Bool.{Bool, true, false, cond, _&&_, true≢false}
 use mathlib.Core.List.{List, [], _∷_, _++_}
 use lib.Dec.{eqb}
 use lib.ListN.{length, take, drop, replicate}
 use Rattle.lines.specs.Lines.{lines, ended}
+use Rattle.frame.specs.Frame.{Frame, begin, point, polygon, end-of-load, move, turn, question, broken, decode}
 use Rattle.hex.specs.Hex.{digits}
 use Rattle.service.specs.Service.{State, nothing, isLoading, step}
 use Rattle.service.specs.Stream.{Served, servedBy, served, Answers}
@@ -20,12 +21,23 @@ unfoldable pub lineByLine : {S : Type 0} → (S → List ℕ → S × List ℕ) 
 lineByLine next s [] = []
 lineByLine next s (l ∷ ls) = let o = next s l in ended (o .1) ++ lineByLine next (o .0) ls
 
--- the right answer, changed by f if it is a report
-unfoldable pub onReport : (List ℕ → List ℕ) → List ℕ → List ℕ
-onReport f a = cond (eqb (length a) 32) (f a) a
+-- whether an accepted frame is answered with a report
+unfoldable pub isReported : Frame → Bool
+isReported (begin tolerance) = false
+isReported (point x y z) = false
+isReported (polygon ring) = false
+isReported end-of-load = true
+isReported (move number n x y z) = true
+isReported (turn number n) = true
+isReported (question n) = false
+isReported broken = false
+
+-- the right answer to a line, changed by f if it is a report
+unfoldable pub onReport : (List ℕ → List ℕ) → List ℕ → List ℕ → List ℕ
+onReport f l a = cond (isReported (decode l) && eqb (length a) 32) (f a) a
 
 unfoldable pub changing : (List ℕ → List ℕ) → State → List ℕ → State × List ℕ
-changing f st l = let o = step st l in (o .next, onReport f (o .answer))
+changing f st l = let o = step st l in (o .next, onReport f l (o .answer))
 
 -- "a checker refusing each frame"
 unfoldable pub refusing : List ℕ → List ℕ → Served
@@ -47,7 +59,7 @@ repeating = servedBy (λ stream. lineByLine again (nothing, []) (lines stream))
     again s l =
         let o = step (s .0) l in
         let kept = cond (isLoading (s .0)) (o .answer) (s .1) in
-        ((o .next, kept), onReport (λ a. kept) (o .answer))
+        ((o .next, kept), onReport (λ a. kept) l (o .answer))
 
 -- "one that invents the number of faulty polygons"
 unfoldable pub inventing : List ℕ → List ℕ → Served
@@ -83,7 +95,7 @@ unfolding everything-computes sameBytes prints lineByLine refusing
 refusing-fails = must-print refusing refl
 
 pub accepting-fails : Satisfies accepting → ⊥
-unfolding everything-computes sameBytes prints lineByLine onReport changing accepting
+unfolding everything-computes sameBytes prints lineByLine isReported onReport changing accepting
 accepting-fails = must-print accepting refl
 
 pub silent-fails : Satisfies silent → ⊥
@@ -91,9 +103,9 @@ unfolding everything-computes sameBytes prints silent
 silent-fails = must-print silent refl
 
 pub repeating-fails : Satisfies repeating → ⊥
-unfolding everything-computes sameBytes prints lineByLine onReport repeating
+unfolding everything-computes sameBytes prints lineByLine isReported onReport repeating
 repeating-fails = must-print repeating refl
 
 pub inventing-fails : Satisfies inventing → ⊥
-unfolding everything-computes sameBytes prints lineByLine onReport changing inventing
+unfolding everything-computes sameBytes prints lineByLine isReported onReport changing inventing
 inventing-fails = must-print inventing refl

@@ -12,7 +12,7 @@ pub fn put_report(
     points: &[i32; 1536],
     entries: &[u16; 1024],
     starts: &[u16; 257],
-    findings: &[u8; 256],
+    findings: &[u16; 256],
     parts: &[i64; 256],
     table: &[u64; 1024],
     turned: &[u8; 256],

@@ -35,7 +35,7 @@ pub fn turn_polygon(
     entries: &mut [u16; 1024],
     starts: &[u16; 257],
     stamps: &mut [u32; 256],
-    findings: &[u8; 256],
+    findings: &mut [u16; 256],
     parts: &mut [i64; 256],
     table: &[u64; 1024],
     turned: &mut [u8; 256],
@@ -45,7 +45,7 @@ pub fn turn_polygon(
     p: usize,
 ) -> Desk
     requires { ⌜ (d .at + 33 ≤ length (now room)) × (Valid (arrays (now points) (now entries) (now starts) (now stamps) (now findings) (now parts) (now table) (now turned)) d) ⌝ }
-    ensures { λ r. ⌜ Did (does (service (arrays (now (points .entry)) (now (entries .entry)) (now (starts .entry)) (now (stamps .entry)) (now (findings .entry)) (now (parts .entry)) (now (table .entry)) (now (turned .entry))) d) (F.turn number p)) (now (room .entry)) (d .at) (arrays (now (points .entry)) (now (entries .exit)) (now (starts .entry)) (now (stamps .exit)) (now (findings .entry)) (now (parts .exit)) (now (table .entry)) (now (turned .exit))) (now (room .exit)) r ⌝ }
+    ensures { λ r. ⌜ Did (does (service (arrays (now (points .entry)) (now (entries .entry)) (now (starts .entry)) (now (stamps .entry)) (now (findings .entry)) (now (parts .entry)) (now (table .entry)) (now (turned .entry))) d) (F.turn number p)) (now (room .entry)) (d .at) (arrays (now (points .entry)) (now (entries .exit)) (now (starts .entry)) (now (stamps .exit)) (now (findings .exit)) (now (parts .exit)) (now (table .entry)) (now (turned .exit))) (now (room .exit)) r ⌝ }
 {
     let refusal = of_turn(d, number, p);
     if desk::is_accepted(refusal) {

@@ -1,4 +1,5 @@
 pub mod Lists
 pub mod All
+pub mod Least
 pub mod laws
 pub mod held

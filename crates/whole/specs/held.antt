@@ -1,4 +1,3 @@
 -- How the code's arrays and numbers stand for what the definitions say.
 pub mod Small
 pub mod Stored
-pub mod Least

@@ -27,11 +27,17 @@ put-digits-requires-3 c κs = search needs
 add-put-digits-3 : tie.Need-add-put-digits-3
 add-put-digits-3 c = search needs
 
+put-digits-requires-4 : tie.Need-put-digits-requires-4
+put-digits-requires-4 c κs = search needs
+
+add-put-digits-4 : tie.Need-add-put-digits-4
+add-put-digits-4 c = search needs
+
 bits-requires : tie.Need-bits-requires
 bits-requires c κs = search needs
 
-put-digits-requires-4 : tie.Need-put-digits-requires-4
-put-digits-requires-4 c κs = search needs
+put-digits-requires-5 : tie.Need-put-digits-requires-5
+put-digits-requires-5 c κs = search needs
 
 add-room : tie.Need-add-room
 add-room c = search needs
@@ -48,19 +54,22 @@ same-length c = simp length-set (cc)
 returns : tie.Need-returns
 unfolding told
 returns c =
-    let c3 = c .before .before .before .before .before .before .before in
+    let c4 = c .before .before .before .before .before .before .before in
+    let c3 = c4 .before .before .before .before in
     let c2 = c3 .before .before .before .before in
     let c1 = c2 .before .before .before .before in
     let a = c1 .before .before .before .args in
     let b = c .before .before .before .bits .ensures ∙ ap bits64 (toZ-ofZ (c1 .before .before .before .fits .part)) in
-    let e = rw b at (c .before .before .put-digits4 .ensures) in
+    let e = rw b at (c .before .before .put-digits5 .ensures) in
     put-end
     (put-then 16 (bits64 (a .part))
     (put-then 8 (a .stamp)
+    (put-then 4 (a .position)
     (put-then 2 (a .finding)
     (put-first 2 0 (c1 .put-digits .ensures))
     (c2 .put-digits2 .ensures))
     (c3 .put-digits3 .ensures))
+    (c4 .put-digits4 .ensures))
     e)
     refl
 
@@ -74,8 +83,10 @@ put-told-spec =
     add-put-digits-2
     put-digits-requires-3
     add-put-digits-3
-    bits-requires
     put-digits-requires-4
+    add-put-digits-4
+    bits-requires
+    put-digits-requires-5
     add-room
     slice-write-room
     add-result

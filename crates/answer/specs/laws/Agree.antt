@@ -20,6 +20,6 @@ module _ (room room₁ room₂ : List ℕ) (at r₁ r₂ : ℕ) where
       → Wrote (ended (reported check a b faulty volume)) room at room₂ r₂ → (room₁ ≡ room₂) × (r₁ ≡ r₂)
   put-report-agrees check a b faulty volume = wrote-agree
 
-  pub put-told-agrees : (finding stamp : ℕ) (part : ℤ) → Wrote (ended (told finding stamp part)) room at room₁ r₁
-      → Wrote (ended (told finding stamp part)) room at room₂ r₂ → (room₁ ≡ room₂) × (r₁ ≡ r₂)
-  put-told-agrees finding stamp part = wrote-agree
+  pub put-told-agrees : (finding position stamp : ℕ) (part : ℤ) → Wrote (ended (told finding position stamp part)) room at room₁ r₁
+      → Wrote (ended (told finding position stamp part)) room at room₂ r₂ → (room₁ ≡ room₂) × (r₁ ≡ r₂)
+  put-told-agrees finding position stamp part = wrote-agree

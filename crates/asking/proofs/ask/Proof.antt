@@ -4,7 +4,7 @@ use mir.Facts.{toZ-ofZ}
 use Rattle.asking.specs.laws.Dids.{did-question}
 use Rattle.desk.specs.laws.Dids.{did-refused}
 use Rattle.frame.specs.Frame.{question}
-use Prim.Native.Nat.{ℕ}
+use Prim.Native.Nat.{ℕ, _/_, _%_}
 use lib.IntN.{ℤ, pos}
 use lib.ListN.{getD}
 use mathlib.Core.List.{List}
@@ -19,34 +19,46 @@ of-question-requires c κs = search needs
 is-accepted-requires : tie.Need-is-accepted-requires
 is-accepted-requires c κs = search needs
 
-element-copy-out-finding : tie.Need-element-copy-out-finding
-element-copy-out-finding c =
+mul-kept : tie.Need-mul-kept
+mul-kept c =
     let h = c .before .before .of-question .ensures .fit (sym (c .before .is-accepted .ensures) ∙ c .if1 .taken) in
     let k = c .before .before .before .before .pre .1 in
     search needs
 
+element-copy-out-kept : tie.Need-element-copy-out-kept
+element-copy-out-kept c =
+    let h = c .before .before .of-question .ensures .fit (sym (c .before .is-accepted .ensures) ∙ c .if1 .taken) in
+    let k = c .before .before .before .before .pre .1 in
+    search needs
+
+number-of-requires : tie.Need-number-of-requires
+number-of-requires c κs = search needs
+
+position-of-requires : tie.Need-position-of-requires
+position-of-requires c κs = search needs
+
 mul-stamp : tie.Need-mul-stamp
 mul-stamp c =
-    let h = c .before .before .before .of-question .ensures .fit (sym (c .before .before .is-accepted .ensures) ∙ c .before .if1 .taken) in
-    let k = c .before .before .before .before .before .pre .1 in
+    let h = c .before .before .before .before .before .of-question .ensures .fit (sym (c .before .before .before .before .is-accepted .ensures) ∙ c .before .before .before .if1 .taken) in
+    let k = c .before .before .before .before .before .before .before .pre .1 in
     search needs
 
 element-copy-out-stamp : tie.Need-element-copy-out-stamp
 element-copy-out-stamp c =
-    let h = c .before .before .before .of-question .ensures .fit (sym (c .before .before .is-accepted .ensures) ∙ c .before .if1 .taken) in
-    let k = c .before .before .before .before .before .pre .1 in
+    let h = c .before .before .before .before .before .of-question .ensures .fit (sym (c .before .before .before .before .is-accepted .ensures) ∙ c .before .before .before .if1 .taken) in
+    let k = c .before .before .before .before .before .before .before .pre .1 in
     search needs
 
 mul-part : tie.Need-mul-part
 mul-part c =
-    let h = c .before .before .before .before .of-question .ensures .fit (sym (c .before .before .before .is-accepted .ensures) ∙ c .before .before .if1 .taken) in
-    let k = c .before .before .before .before .before .before .pre .1 in
+    let h = c .before .before .before .before .before .before .of-question .ensures .fit (sym (c .before .before .before .before .before .is-accepted .ensures) ∙ c .before .before .before .before .if1 .taken) in
+    let k = c .before .before .before .before .before .before .before .before .pre .1 in
     search needs
 
 element-copy-out-part : tie.Need-element-copy-out-part
 element-copy-out-part c =
-    let h = c .before .before .before .before .of-question .ensures .fit (sym (c .before .before .before .is-accepted .ensures) ∙ c .before .before .if1 .taken) in
-    let k = c .before .before .before .before .before .before .pre .1 in
+    let h = c .before .before .before .before .before .before .of-question .ensures .fit (sym (c .before .before .before .before .before .is-accepted .ensures) ∙ c .before .before .before .before .if1 .taken) in
+    let k = c .before .before .before .before .before .before .before .before .pre .1 in
     search needs
 
 put-told-requires : tie.Need-put-told-requires
@@ -58,9 +70,14 @@ same-length c = search needs
 returns : tie.Need-returns
 returns c =
     λ a sf ff pf v.
-    let g = c .before .before .before .before .before .before .before .before .before .before .before .before .args in
-    did-question a (g .d) v (g .p) (c .before .before .before .before .before .before .before .before .before .before .of-question .result) (c .before .before .before .before .before .before .before .before .before .before .of-question .ensures .is a tt v) (sym (c .before .before .before .before .before .before .before .before .before .is-accepted .ensures) ∙ c .before .before .before .before .before .before .before .before .if1 .taken) (c .before .before .before .before .before .before .before .before .before .before .of-question .ensures .fit (sym (c .before .before .before .before .before .before .before .before .before .is-accepted .ensures) ∙ c .before .before .before .before .before .before .before .before .if1 .taken)) _ _ _
-    (ap (λ (l : List ℕ). getD l (g .p) 0) (sym ff)) (ap (λ (l : List ℕ). getD l (g .p) 0) (sym sf)) (toZ-ofZ {w = w64} (record { sfits = c .before .before .before .before .before .part .given }) ∙ ap (λ (l : List ℤ). getD l (g .p) (pos 0)) (sym pf))
+    let g = c .before .before .before .before .before .before .before .before .before .before .before .before .before .before .args in
+    let q = c .before .before .before .before .before .before .before .before .before .before .before .before .of-question in
+    let t = sym (c .before .before .before .before .before .before .before .before .before .before .before .is-accepted .ensures) ∙ c .before .before .before .before .before .before .before .before .before .before .if1 .taken in
+    did-question a (g .d) v (g .p) (q .result) (q .ensures .is a tt v) t (q .ensures .fit t) _ _ _ _
+    (c .before .before .before .before .before .before .before .before .number-of .ensures ∙ ap (λ (l : List ℕ). getD l (g .p) 0 % 16) (sym ff))
+    (c .before .before .before .before .before .before .before .position-of .ensures ∙ ap (λ (l : List ℕ). getD l (g .p) 0 / 16) (sym ff))
+    (ap (λ (l : List ℕ). getD l (g .p) 0) (sym sf))
+    (toZ-ofZ {w = w64} (record { sfits = c .before .before .before .before .before .part .given }) ∙ ap (λ (l : List ℤ). getD l (g .p) (pos 0)) (sym pf))
     (g .room .now) _ _ (c .before .before .before .put-told .ensures)
 
 refuse-requires : tie.Need-refuse-requires
@@ -81,7 +98,10 @@ ask-spec =
     (tie.spec
     of-question-requires
     is-accepted-requires
-    element-copy-out-finding
+    mul-kept
+    element-copy-out-kept
+    number-of-requires
+    position-of-requires
     mul-stamp
     element-copy-out-stamp
     mul-part

@@ -19,7 +19,7 @@ returns : tie.Need-returns
 returns c =
     let s = c .before .before .before .before .before .before in
     let short : s .args .m < s .args .i + 3 = ⊎-elim (λ z. omega arith) (λ z. omega arith) (c .before .end-of .ensures .2) in
-    sym (row-short (s .pre .1 .1 .0) (s .args .i) (s .pre .1 .1 .1) short)
+    sym (row-short (s .pre .1 .1 .0) (s .pre .1 .1 .1) short)
 
 clashes-past-requires : tie.Need-clashes-past-requires
 clashes-past-requires c κs = search needs
@@ -28,7 +28,7 @@ returns-2 : tie.Need-returns-2
 returns-2 c =
     let s = c .before .before .before .before .before .before .before in
     let e = c .before .before .end-of in
-    or-end _ _ _ (c .clashes-past .ensures) (row-left (s .pre .1 .1 .0) (s .args .i) (e .result) (omega arith) (e .ensures .2)) ∙ row-past (s .pre .1 .1 .0) (s .args .i) (omega arith)
+    or-end _ _ _ (c .clashes-past .ensures) (row-left (s .pre .1 .1 .0) (e .result) (omega arith) (e .ensures .2)) ∙ row-past (s .pre .1 .1 .0) (omega arith)
 
 pub clashes-boxed-spec : {M : Type 1} → statement M
 clashes-boxed-spec =

@@ -1,13 +1,12 @@
 -- For each public function: any two results that its statement allows are one.
 use Prim.Native.Nat.{ℕ}
 use mathlib.Core.Path.{_≡_}
-use mathlib.Core.Bool.{Bool}
 use mathlib.Core.List.{List}
 use lib.IntN.{ℤ}
 use Rattle.whole.specs.Lists.{tab}
 use Rattle.whole.specs.laws.Agree.{agree}
 use Rattle.plane.specs.held.Edges.{edgeAt}
-use Rattle.crossing.specs.Crossed.{isCrossed}
+use Rattle.crossing.specs.Crossed.{crossedAt}
 
-pub crossings-many-agrees : (us vs : List ℤ) (m : ℕ) (r₁ r₂ : Bool) → r₁ ≡ isCrossed (tab (edgeAt us vs) m) → r₂ ≡ isCrossed (tab (edgeAt us vs) m) → r₁ ≡ r₂
-crossings-many-agrees us vs m r₁ r₂ = agree
+pub first-crossed-agrees : (us vs : List ℤ) (m : ℕ) (r₁ r₂ : ℕ) → r₁ ≡ crossedAt (tab (edgeAt us vs) m) → r₂ ≡ crossedAt (tab (edgeAt us vs) m) → r₁ ≡ r₂
+first-crossed-agrees us vs m r₁ r₂ = agree

@@ -6,7 +6,7 @@ use mathlib.Core.List.{List}
 use mathlib.Core.Logic.{_⊎_}
 use lib.ListN.{length, getD, take}
 use lib.IntN.{ℤ, pos}
-use Rattle.polygon.specs.Ring.{isShort, finding, findingNumber}
+use Rattle.polygon.specs.Ring.{isShort, finding}
 use Rattle.ring.specs.Entries.{isUnclosed, isRepeated}
 use Rattle.volume.specs.Part.{part}
 use Rattle.space.specs.held.Points.{pointsOf, Coords}
@@ -15,6 +15,7 @@ use Rattle.shell.specs.declared.Shape.{Shape}
 use Rattle.shell.specs.Shell.{shape}
 use Rattle.shell.specs.held.Kept.{Edged, Known}
 use Rattle.building.specs.declared.Scalars.{Scalars}
+use Rattle.polygon.specs.held.Findings.{keptFinding}
 use Rattle.building.specs.Tables.{Tables, Building}
 
 -- the tables that the arrays and the scalars hold, in a load and after it
@@ -67,10 +68,10 @@ pub record Sizes (a : Arrays) : Type 0 where
   pub table : length (a .table) ≡ 1024
   pub turned : length (a .turned) ≡ 256
 
--- every kept finding is that of the present points and rings
+-- every kept finding, with its position, is that of the present points and rings
 pub record Found (points : List ℤ) (entries starts findings : List ℕ) (s : Scalars) : Type 0 where
   pub size : length findings ≡ 256
-  pub each : (p : ℕ) → p < s .polygons → getD findings p 0 ≡ findingNumber (finding (s .tolerance) (pointsOf points) (ringAt entries starts p))
+  pub each : (p : ℕ) → p < s .polygons → getD findings p 0 ≡ keptFinding (finding (s .tolerance) (pointsOf points) (ringAt entries starts p))
 
 -- and so is every kept part
 pub record Summed (points : List ℤ) (entries starts : List ℕ) (parts : List ℤ) (s : Scalars) : Type 0 where

@@ -32,10 +32,10 @@ unfolding isFault findingNumber
 is-sound Sound e = refl
 is-sound Short e = absurd (true≢false e)
 is-sound Unclosed e = absurd (true≢false e)
-is-sound Repeated e = absurd (true≢false e)
+is-sound (Repeated i) e = absurd (true≢false e)
 is-sound NoNormal e = absurd (true≢false e)
-is-sound Crossed e = absurd (true≢false e)
-is-sound Uneven e = absurd (true≢false e)
+is-sound (Crossed i) e = absurd (true≢false e)
+is-sound (Uneven i) e = absurd (true≢false e)
 
 -- the rows of the findings, from number n on
 unfoldable pub rows : ℕ → List Finding → List (Option Verdict)

@@ -1,55 +1,81 @@
 -- Findings as the numbers that are kept, and the checks that no correction changes.
-use Prim.Native.Nat.{ℕ, zero, suc, _≤_}
+use Prim.Native.Nat.{ℕ, _+_, _*_, _/_, _%_, _≤_}
 use native.Mathlib.Omega.{arith}
-use mathlib.Core.Path.{_≡_, refl, sym, ap, _∙_, subst}
+use mathlib.Core.Path.{_≡_, refl, sym, ap₂, _∙_, subst}
 use mathlib.Core.Bool.{Bool, true, false, false≢true}
 use mathlib.Core.List.{List, [], _∷_, reverse}
+use borrow.Author.Tests.{lt-ltb}
+use lib.Dec.{ltb}
 use Rattle.whole.specs.Lists.{given, first}
 use Rattle.space.specs.Space.{Point, places}
 use Rattle.plane.specs.Plane.{largestAxis}
 use Rattle.polygon.specs.declared.Finding.{Finding}
 use Rattle.polygon.specs.declared.Finding.the-variants.{Sound, Short, Unclosed, Repeated, NoNormal, Crossed, Uneven}
-use Rattle.polygon.specs.Ring.{isShort, edgesIn, finding, findingNumber}
+use Rattle.polygon.specs.Ring.{isShort, edgesIn, finding, findingNumber, findingPosition}
+use Rattle.polygon.specs.held.Position.{hasPosition}
 use Rattle.ring.specs.Entries.{isUnclosed, isRepeated}
 use Rattle.normal.specs.Normal.{normal, isZero}
-use Rattle.crossing.specs.Crossed.{isCrossed}
-use Rattle.even.specs.Even.{isUneven}
-use Rattle.polygon.specs.laws.TurnFinding.{finding-turned}
+use Rattle.crossing.specs.Crossed.{isCrossed, crossedAt}
+use Rattle.even.specs.Even.{isUneven, unevenAt}
+use Rattle.polygon.specs.laws.TurnFinding.{number-turned}
+use Rattle.building.specs.Report.{isFault}
+use Rattle.polygon.specs.held.Findings.{keptFinding, findingOf, isPlaced}
 use Rattle.building.specs.held.Holds.{isBroken}
 
--- the finding of a number
-findingFrom : ℕ → Finding
-findingFrom zero = Sound
-findingFrom (suc zero) = Short
-findingFrom (suc (suc zero)) = Unclosed
-findingFrom (suc (suc (suc zero))) = Repeated
-findingFrom (suc (suc (suc (suc zero)))) = NoNormal
-findingFrom (suc (suc (suc (suc (suc zero))))) = Crossed
-findingFrom (suc (suc (suc (suc (suc (suc n)))))) = Uneven
-
-from-number : (f : Finding) → findingFrom (findingNumber f) ≡ f
-unfolding findingFrom findingNumber
-from-number Sound = refl
-from-number Short = refl
-from-number Unclosed = refl
-from-number Repeated = refl
-from-number NoNormal = refl
-from-number Crossed = refl
-from-number Uneven = refl
-
--- two findings of one number are the same
-pub number-same : (f g : Finding) → findingNumber f ≡ findingNumber g → f ≡ g
-number-same f g e = sym (from-number f) ∙ ap findingFrom e ∙ from-number g
+-- ---- what is kept tells the finding
+of-number : (f : Finding) → findingOf (findingNumber f) (findingPosition f) ≡ f
+unfolding findingOf findingNumber findingPosition
+of-number Sound = refl
+of-number Short = refl
+of-number Unclosed = refl
+of-number (Repeated i) = refl
+of-number NoNormal = refl
+of-number (Crossed i) = refl
+of-number (Uneven i) = refl
 
 pub number-few : (f : Finding) → findingNumber f ≤ 6
 unfolding findingNumber
 number-few Sound = omega arith
 number-few Short = omega arith
 number-few Unclosed = omega arith
-number-few Repeated = omega arith
+number-few (Repeated i) = omega arith
 number-few NoNormal = omega arith
-number-few Crossed = omega arith
-number-few Uneven = omega arith
+number-few (Crossed i) = omega arith
+number-few (Uneven i) = omega arith
+
+module _ (f : Finding) {k : ℕ} (e : k ≡ keptFinding f) where
+  pub kept-number : k % 16 ≡ findingNumber f
+  unfolding keptFinding
+  kept-number = let h = number-few f in omega arith
+
+  pub kept-position : k / 16 ≡ findingPosition f
+  unfolding keptFinding
+  kept-position = let h = number-few f in omega arith
+
+  pub kept-is : findingOf (k % 16) (k / 16) ≡ f
+  kept-is = ap₂ findingOf kept-number kept-position ∙ of-number f
+
+-- it is 0 exactly where there is none
+pub kept-fault : (f : Finding) → ltb 0 (keptFinding f) ≡ isFault f
+unfolding keptFinding isFault findingNumber findingPosition
+kept-fault Sound = refl
+kept-fault Short = refl
+kept-fault Unclosed = refl
+kept-fault (Repeated i) = lt-ltb 0 (16 * i + 3) (omega arith)
+kept-fault NoNormal = refl
+kept-fault (Crossed i) = lt-ltb 0 (16 * i + 5) (omega arith)
+kept-fault (Uneven i) = lt-ltb 0 (16 * i + 6) (omega arith)
+
+-- ---- whether a finding has a position, by its number
+pub kept-placed : (f : Finding) → isPlaced (findingNumber f) ≡ hasPosition f
+unfolding isPlaced hasPosition findingNumber
+kept-placed Sound = refl
+kept-placed Short = refl
+kept-placed Unclosed = refl
+kept-placed (Repeated i) = refl
+kept-placed NoNormal = refl
+kept-placed (Crossed i) = refl
+kept-placed (Uneven i) = refl
 
 -- a number of checks 01 to 03
 pub record Early (n : ℕ) : Type 0 where
@@ -75,18 +101,22 @@ module _ (tolerance : ℕ) (points : List Point) (ring : List ℕ) where
   unfolding isBroken finding first given findingNumber
   early-broken = go (isShort ring) refl (isUnclosed ring) refl (isRepeated ring) refl
     where
-      late : (n c e : Bool) → Early (findingNumber (first Sound (given n NoNormal ∷ given c Crossed ∷ given e Uneven ∷ []))) → ⊥
-      late true c e h = omega (arith, h .most)
-      late false true e h = omega (arith, h .most)
-      late false false true h = omega (arith, h .most)
-      late false false false h = omega (arith, h .least)
+      late : (n c : Bool) (i : ℕ) (e : Bool) (k : ℕ) → Early (findingNumber (first Sound (given n NoNormal ∷ given c (Crossed i) ∷ given e (Uneven k) ∷ []))) → ⊥
+      late true c i e k h = omega (arith, h .most)
+      late false true i e k h = omega (arith, h .most)
+      late false false i true k h = omega (arith, h .most)
+      late false false i false k h = omega (arith, h .least)
 
       go : (s : Bool) → isShort ring ≡ s → (u : Bool) → isUnclosed ring ≡ u → (r : Bool) → isRepeated ring ≡ r → Early (findingNumber (finding tolerance points ring)) → isBroken ring ≡ true
       go true p u q r t h = rw p
       go false p true q r t h = rw (p, q)
       go false p false q true t h = rw (p, q, t)
-      go false p false q false t h = absurd (late (isZero (normal (places points ring))) (isCrossed (edgesIn (largestAxis (normal (places points ring))) (places points ring))) (isUneven tolerance (normal (places points ring)) (places points ring)) (rw (p, q, t) at h))
+      go false p false q false t h = (
+          let ps = places points ring in
+          let n = normal ps in
+          let es = edgesIn (largestAxis n) ps in
+          absurd (late (isZero n) (isCrossed es) (crossedAt es) (isUneven tolerance n ps) (unevenAt tolerance n ps) (rw (p, q, t) at h)))
 
 -- a turn mends none of them
 pub broken-turned : (ring : List ℕ) → isBroken ring ≡ true → isBroken (reverse ring) ≡ true
-broken-turned ring b = early-broken 0 [] (reverse ring) (subst Early (sym (ap findingNumber (finding-turned 0 [] ring))) (broken-early 0 [] ring b))
+broken-turned ring b = early-broken 0 [] (reverse ring) (subst Early (sym (number-turned 0 [] ring)) (broken-early 0 [] ring b))

@@ -18,10 +18,10 @@ use Rattle.polygon.specs.declared.Finding.the-variants.{Sound, Short, Unclosed,
 use Rattle.space.specs.Space.{Point, places}
 use Rattle.plane.specs.Plane.{largestAxis}
 use Rattle.polygon.specs.Ring.{isShort, edgesIn, finding, findingNumber}
-use Rattle.ring.specs.Entries.{isUnclosed, isRepeated}
+use Rattle.ring.specs.Entries.{isUnclosed, isRepeated, repeatedAt}
 use Rattle.normal.specs.Normal.{normal, isZero}
-use Rattle.crossing.specs.Crossed.{isCrossed}
-use Rattle.even.specs.Even.{isUneven}
+use Rattle.crossing.specs.Crossed.{isCrossed, crossedAt}
+use Rattle.even.specs.Even.{isUneven, unevenAt}
 use Rattle.shell.specs.declared.Shape.{Shape}
 use Rattle.shell.specs.declared.Shape.the-variants.{Whole, Few, Once, Often, Alike, Apart, Unlinked}
 use Rattle.edges.specs.Edges.{smaller, larger, usedOnce, usedOften, usedAlike}
@@ -35,22 +35,24 @@ use Rattle.building.specs.laws.Accepted.{accepted-none-fails, none-fails
 
 -- ---- one polygon
 
-six : (s u r n c e : Bool) → first Sound (given s Short ∷ given u Unclosed ∷ given r Repeated ∷ given n NoNormal ∷ given c Crossed ∷ given e Uneven ∷ []) ≡ Sound
+six : (s u r : Bool) (i : ℕ) (n c : Bool) (j : ℕ) (e : Bool) (k : ℕ) → first Sound (given s Short ∷ given u Unclosed ∷ given r (Repeated i) ∷ given n NoNormal ∷ given c (Crossed j) ∷ given e (Uneven k) ∷ []) ≡ Sound
     → (s ≡ false) × (u ≡ false) × (r ≡ false) × (n ≡ false) × (c ≡ false) × (e ≡ false)
 unfolding first given isFault findingNumber
-six true u r n c e q = absurd (true≢false (ap isFault q))
-six false true r n c e q = absurd (true≢false (ap isFault q))
-six false false true n c e q = absurd (true≢false (ap isFault q))
-six false false false true c e q = absurd (true≢false (ap isFault q))
-six false false false false true e q = absurd (true≢false (ap isFault q))
-six false false false false false true q = absurd (true≢false (ap isFault q))
-six false false false false false false q = (refl, refl, refl, refl, refl, refl)
+six true u r i n c j e k q = absurd (true≢false (ap isFault q))
+six false true r i n c j e k q = absurd (true≢false (ap isFault q))
+six false false true i n c j e k q = absurd (true≢false (ap isFault q))
+six false false false i true c j e k q = absurd (true≢false (ap isFault q))
+six false false false i false true j e k q = absurd (true≢false (ap isFault q))
+six false false false i false false j true k q = absurd (true≢false (ap isFault q))
+six false false false i false false j false k q = (refl, refl, refl, refl, refl, refl)
 
 pub sound-passes : (tolerance : ℕ) (points : List Point) (ring : Polygon) → finding tolerance points ring ≡ Sound → Passes tolerance points ring
 unfolding finding
 sound-passes tolerance points ring q =
-    let n = normal (places points ring) in
-    let r = six (isShort ring) (isUnclosed ring) (isRepeated ring) (isZero n) (isCrossed (edgesIn (largestAxis n) (places points ring))) (isUneven tolerance n (places points ring)) q in
+    let ps = places points ring in
+    let n = normal ps in
+    let es = edgesIn (largestAxis n) ps in
+    let r = six (isShort ring) (isUnclosed ring) (isRepeated ring) (repeatedAt ring) (isZero n) (isCrossed es) (crossedAt es) (isUneven tolerance n ps) (unevenAt tolerance n ps) q in
     record { not-01 = r .0; not-02 = r .1; not-03 = r .2; not-04 = r .3; not-05 = r .4; not-06 = r .5 }
 
 pub passes-sound : (tolerance : ℕ) (points : List Point) (ring : Polygon) → Passes tolerance points ring → finding tolerance points ring ≡ Sound

@@ -16,6 +16,9 @@ abbrev μ-loop : tie.MeasureT-loop
 loop-holds : tie.Need-loop-holds Inv-loop μ-loop
 loop-holds c = early-none (c .args .findings .now) (c .args .n)
 
+mul-is-early : tie.Need-mul-is-early Inv-loop μ-loop
+mul-is-early c = search needs
+
 element-copy-out-is-early : tie.Need-element-copy-out-is-early Inv-loop μ-loop
 element-copy-out-is-early c = search needs
 
@@ -53,6 +56,7 @@ lowest-early-spec =
     Inv-loop
     μ-loop
     loop-holds
+    mul-is-early
     element-copy-out-is-early
     is-early-requires
     returns

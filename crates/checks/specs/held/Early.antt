@@ -1,14 +1,14 @@
 -- The lowest polygon that fails one of checks 01 to 03, or n where there is none.
-use Prim.Native.Nat.{ℕ, _≤_, _<_}
+use Prim.Native.Nat.{ℕ, _%_, _≤_, _<_}
 use mathlib.Core.Path.{_≡_}
 use mathlib.Core.Bool.{Bool, true, false, _&&_}
 use mathlib.Core.List.{List}
 use lib.Dec.{leb}
 use lib.ListN.{getD}
 
--- whether a number is one of checks 01 to 03
+-- whether a finding as it is kept is one of checks 01 to 03
 abbrev pub isEarly : ℕ → Bool
-isEarly n = leb 1 n && leb n 3
+isEarly k = leb 1 (k % 16) && leb (k % 16) 3
 
 -- none of the first i does
 pub record NoneEarly (l : List ℕ) (n i : ℕ) : Type 0 where

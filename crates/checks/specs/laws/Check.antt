@@ -1,5 +1,5 @@
 -- End of load: what is kept is what the definitions give for the loaded tables.
-use Prim.Native.Nat.{ℕ, zero, suc, _+_, _-_, _≤_, _<_}
+use Prim.Native.Nat.{ℕ, zero, suc, _+_, _-_, _%_, _≤_, _<_}
 use native.Mathlib.Omega.{arith}
 use mathlib.Core.Path.{_≡_, refl, sym, ap, ap₂, _∙_, subst}
 use mathlib.Core.Bool.{Bool, true, false, _&&_, true≢false, false≢true}
@@ -13,7 +13,7 @@ use Rattle.whole.specs.laws.Bools.{none-of}
 use Rattle.whole.specs.Lists.{given, first, tab, lastOf}
 use Rattle.whole.specs.laws.Stores.{cases, upto-done, length-upto}
 use Rattle.whole.specs.held.Stored.{zeroed}
-use Rattle.polygon.specs.Ring.{isShort}
+use Rattle.polygon.specs.Ring.{isShort, finding, findingNumber}
 use Rattle.ring.specs.Entries.{isUnclosed, isRepeated}
 use Rattle.space.specs.held.Points.{pointsOf}
 use Rattle.shell.specs.declared.Shape.{Shape}
@@ -28,23 +28,26 @@ use Rattle.building.specs.declared.Scalars.{Scalars}
 use Rattle.building.specs.Tables.{loaded}
 use Rattle.building.specs.laws.Lists.{tab-ext, take-is-tab, map-tab}
 use Rattle.building.specs.held.Holds.{isBroken, Arrays, arrays, heldTables, heldBuilding, Loaded, Sizes, Found, Summed, Broken, Shown, Did}
-use Rattle.building.specs.laws.Findings.{Early, early-broken, broken-early}
-use Rattle.renew.specs.held.Renewed.{numberAt, partAt}
+use Rattle.building.specs.laws.Findings.{Early, early-broken, broken-early, kept-number}
+use Rattle.renew.specs.held.Renewed.{keptAt, partAt}
 use Rattle.checks.specs.held.Steps.{Checked}
 use Rattle.checks.specs.held.Early.{isEarly, NoneEarly, EarlyAt}
 use Rattle.checks.specs.laws.Steps.{zeroed-all}
 use Rattle.edges.specs.laws.Spans.{length-span}
 
-early-yes : (n : ℕ) → isEarly n ≡ true → Early n
-early-yes n e = go (leb 1 n) refl (leb n 3) refl e
+early-yes : (k : ℕ) → isEarly k ≡ true → Early (k % 16)
+early-yes k e = go (leb 1 n) refl (leb n 3) refl e
   where
+    n : ℕ
+    n = k % 16
+
     go : (a : Bool) → leb 1 n ≡ a → (b : Bool) → leb n 3 ≡ b → (a && b) ≡ true → Early n
     go true p true q e = record { least = leb-true 1 n p; most = leb-true n 3 q }
     go true p false q e = absurd (false≢true e)
     go false p b q e = absurd (false≢true e)
 
-early-no : (n : ℕ) → isEarly n ≡ false → Early n → ⊥
-early-no n e y = true≢false (sym (ap₂ (λ (a b : Bool). a && b) (le-leb 1 n (y .least)) (le-leb n 3 (y .most))) ∙ e)
+early-no : (k : ℕ) → isEarly k ≡ false → Early (k % 16) → ⊥
+early-no k e y = true≢false (sym (ap₂ (λ (a b : Bool). a && b) (le-leb 1 (k % 16) (y .least)) (le-leb (k % 16) 3 (y .most))) ∙ e)
 
 module _ (l : List ℕ) (n : ℕ) where
   pub early-none : NoneEarly l n 0
@@ -106,8 +109,8 @@ module _ {points : List ℤ} {entries starts : List ℕ} {s : Scalars} (ld : Loa
   pub checked-found : Found points entries starts findings' s
   checked-found =
       record {
-        size = ap length (ch .found) ∙ length-upto (λ p _. numberAt (s .tolerance) points entries starts p) 0 findings (s .polygons) ∙ size-f;
-        each = λ p h. ap (λ (l : List ℕ). getD l p 0) (ch .found) ∙ upto-done (λ p _. numberAt (s .tolerance) points entries starts p) 0 findings (s .polygons) p h (omega (arith, ld .begins .few));
+        size = ap length (ch .found) ∙ length-upto (λ p _. keptAt (s .tolerance) points entries starts p) 0 findings (s .polygons) ∙ size-f;
+        each = λ p h. ap (λ (l : List ℕ). getD l p 0) (ch .found) ∙ upto-done (λ p _. keptAt (s .tolerance) points entries starts p) 0 findings (s .polygons) p h (omega (arith, ld .begins .few));
       }
 
   pub checked-summed : Summed points entries starts parts' s
@@ -117,13 +120,16 @@ module _ {points : List ℤ} {entries starts : List ℕ} {s : Scalars} (ld : Loa
         each = λ p h. ap (λ (l : List ℤ). getD l p (pos 0)) (ch .summed) ∙ upto-done (λ p _. partAt points entries starts p) (pos 0) parts (s .polygons) p h (omega (arith, ld .begins .few));
       }
 
+  number-at : (p : ℕ) → p < s .polygons → getD findings' p 0 % 16 ≡ findingNumber (finding (s .tolerance) (pointsOf points) (ringAt entries starts p))
+  number-at p h = kept-number (finding (s .tolerance) (pointsOf points) (ringAt entries starts p)) (checked-found .each p h)
+
   -- some ring is broken
   pub early-is-broken : (r : ℕ) → EarlyAt findings' (s .polygons) r → r < s .polygons → Broken entries starts (s .polygons)
   early-is-broken r e h =
       record {
         polygon = r;
         below = h;
-        broken = early-broken (s .tolerance) (pointsOf points) (ringAt entries starts r) (subst Early (checked-found .each r h) (early-yes (getD findings' r 0) (e .here h)));
+        broken = early-broken (s .tolerance) (pointsOf points) (ringAt entries starts r) (subst Early (number-at r h) (early-yes (getD findings' r 0) (e .here h)));
       }
 
   -- none is: the shell's table takes them all
@@ -138,7 +144,7 @@ module _ {points : List ℤ} {entries starts : List ℕ} {s : Scalars} (ld : Loa
     where
       whole : (p : ℕ) → p < s .polygons → (b : Bool) → isBroken (ringAt entries starts p) ≡ b → b ≡ false
       whole p g false q = refl
-      whole p g true q = absurd (early-no (getD findings' p 0) (e .none .before p (omega arith)) (subst Early (sym (checked-found .each p g)) (broken-early (s .tolerance) (pointsOf points) (ringAt entries starts p) q)))
+      whole p g true q = absurd (early-no (getD findings' p 0) (e .none .before p (omega arith)) (subst Early (sym (number-at p g)) (broken-early (s .tolerance) (pointsOf points) (ringAt entries starts p) q)))
 
 -- all stamps are 0
 stamps-none : (entries starts : List ℕ) (n : ℕ) (stamps : List ℕ) → length stamps ≡ 256 → n ≤ 256 → take n (zeroed stamps 256) ≡ map (λ (r : List ℕ). 0) (rings entries starts n)

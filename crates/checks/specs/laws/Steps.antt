@@ -9,7 +9,7 @@ use lib.ListN.{length, getD, set, List·getD-eq-default}
 use lib.IntN.{ℤ, pos}
 use Rattle.whole.specs.laws.Stores.{cases, length-upto, upto-more, upto-done, upto-rest}
 use Rattle.whole.specs.held.Stored.{upto, zeroed}
-use Rattle.renew.specs.held.Renewed.{numberAt, partAt, Refreshed}
+use Rattle.renew.specs.held.Renewed.{keptAt, partAt, Refreshed}
 use Rattle.checks.specs.held.Steps.{Checked}
 
 -- ---- all 256 are 0
@@ -29,7 +29,7 @@ module _ (tolerance : ℕ) (points : List ℤ) (entries starts : List ℕ) where
 
     module _ {m : ℕ} {findings' : List ℕ} {parts' : List ℤ} (ch : Checked tolerance points entries starts m findings parts findings' parts') where
       pub checked-findings : length findings' ≡ length findings
-      checked-findings = ap length (ch .found) ∙ length-upto (λ p _. numberAt tolerance points entries starts p) 0 findings m
+      checked-findings = ap length (ch .found) ∙ length-upto (λ p _. keptAt tolerance points entries starts p) 0 findings m
 
       pub checked-parts : length parts' ≡ length parts
       checked-parts = ap length (ch .summed) ∙ length-upto (λ p _. partAt points entries starts p) (pos 0) parts m
@@ -37,6 +37,6 @@ module _ (tolerance : ℕ) (points : List ℤ) (entries starts : List ℕ) where
       pub checked-more : {findings'' : List ℕ} {parts'' : List ℤ} → Refreshed tolerance points entries starts m findings' parts' findings'' parts'' → Checked tolerance points entries starts (m + 1) findings parts findings'' parts''
       checked-more r =
           record {
-            found = r .found ∙ ap (λ (l : List ℕ). set l m (numberAt tolerance points entries starts m)) (ch .found) ∙ upto-more (λ p _. numberAt tolerance points entries starts p) 0 findings m;
+            found = r .found ∙ ap (λ (l : List ℕ). set l m (keptAt tolerance points entries starts m)) (ch .found) ∙ upto-more (λ p _. keptAt tolerance points entries starts p) 0 findings m;
             summed = r .summed ∙ ap (λ (l : List ℤ). set l m (partAt points entries starts m)) (ch .summed) ∙ upto-more (λ p _. partAt points entries starts p) (pos 0) parts m;
           }

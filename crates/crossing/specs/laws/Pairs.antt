@@ -1,6 +1,7 @@
 -- Check 05, pair of edges by pair of edges.
 use Prim.Native.Nat.{ℕ, zero, suc, _+_, _-_, _≤_, _<_}
 use native.Mathlib.Omega.{arith}
+use native.Mathlib.Decide.{decLt}
 use native.Mathlib.Numerals.{add-one}
 use mathlib.Core.Path.{_≡_, refl, sym, ap, ap₂, _∙_, subst}
 use mathlib.Core.Bool.{Bool, true, false, _&&_, _||_}
@@ -9,13 +10,14 @@ use borrow.Author.Tests.{eq-eqb, ne-eqb}
 use lib.Dec.{eqb}
 use lib.ListN.{length, getD, drop}
 use lib.IntN.{ℤ, pos}
-use Rattle.whole.specs.Lists.{any, anyTwo, tab, numbered}
-use Rattle.whole.specs.laws.Search.{any-here, any-next, any-end, two-here, two-next, two-end}
+use Rattle.whole.specs.Lists.{any, tab, numbered}
+use Rattle.whole.specs.laws.Search.{any-here, any-next, any-end}
 use Rattle.whole.specs.laws.Places.{tab-length, tab-at, numbered-length, numbered-at}
 use Rattle.plane.specs.Plane.{Segment, share, shareMore}
-use Rattle.crossing.specs.Crossed.{follows, forbidden, isCrossed}
+use Rattle.crossing.specs.Crossed.{follows, forbidden, crossedAt}
 use Rattle.plane.specs.held.Edges.{Ends, edgeAt, spot}
 use Rattle.crossing.specs.held.Columns.{Spread}
+use Rattle.crossing.specs.laws.Least.{row, row-first, row-none}
 
 -- ---- which pairs are neighbours: i before j
 follows-yes : (m i j : ℕ) → i + 1 ≡ j → follows m i j ≡ true
@@ -120,31 +122,40 @@ module _ (us vs : List ℤ) (m : ℕ) where
       row-back-to t j d (omega arith) (row-back t (j + d) (omega arith) (ap (λ (n : ℕ). any t (drop n edges)) z ∙ e))
 
   -- ---- all rows
-  pub rows-all : anyTwo (forbidden m) edges ≡ isCrossed (tab (edgeAt us vs) m)
-  unfolding isCrossed
-  rows-all = ap (λ (n : ℕ). anyTwo (forbidden n) edges) (sym (tab-length (edgeAt us vs) m))
+  -- whether edge i and a later one have in common what they may not
+  abbrev pub rowAt : ℕ → Bool
+  rowAt i = any (forbidden m (i, edgeAt us vs i)) (drop (i + 1) edges)
 
-  module _ (i : ℕ) where
-    pub rows-here : i < m → any (forbidden m (i, edgeAt us vs i)) (drop (i + 1) edges) ≡ true → anyTwo (forbidden m) (drop i edges) ≡ true
-    rows-here h e = two-here (forbidden m) edges i nowhere (inside i h) (ap (λ (x : ℕ × Segment). any (forbidden m x) (drop (i + 1) edges)) (edge-is i h) ∙ e)
+  -- not so of the first i edges
+  pub record Clear (i : ℕ) : Type 0 where
+    pub each : (k : ℕ) → k < i → rowAt k ≡ false
 
-    pub rows-next : i < m → any (forbidden m (i, edgeAt us vs i)) (drop (i + 1) edges) ≡ false → anyTwo (forbidden m) (drop (i + 1) edges) ≡ anyTwo (forbidden m) (drop i edges)
-    rows-next h e = sym (two-next (forbidden m) edges i nowhere (inside i h) (ap (λ (x : ℕ × Segment). any (forbidden m x) (drop (i + 1) edges)) (edge-is i h) ∙ e))
+  pub clear-none : Clear 0
+  clear-none = record { each = λ k h. absurd (omega arith) }
 
-    pub rows-end : i ≡ m → anyTwo (forbidden m) (drop i edges) ≡ false
-    rows-end e = two-end (forbidden m) edges i (e ∙ sym edges-length)
+  pub clear-more : {i : ℕ} → Clear i → rowAt i ≡ false → Clear (i + 1)
+  clear-more {i} c e = record { each = λ k h. go k h (decLt k i) }
+    where
+      go : (k : ℕ) → k < i + 1 → Dec (k < i) → rowAt k ≡ false
+      go k h (yes p) = c .each k p
+      go k h (no p) = let z : k ≡ i = omega arith in ap rowAt z ∙ e
 
-    rows-back : i < m → anyTwo (forbidden m) (drop (i + 1) edges) ≡ true → anyTwo (forbidden m) (drop i edges) ≡ true
-    rows-back h e = go (any (forbidden m (i, edgeAt us vs i)) (drop (i + 1) edges)) refl
-      where
-        go : (b : Bool) → any (forbidden m (i, edgeAt us vs i)) (drop (i + 1) edges) ≡ b → anyTwo (forbidden m) (drop i edges) ≡ true
-        go true z = rows-here h z
-        go false z = sym (rows-next h z) ∙ e
+  es : List Segment
+  es = tab (edgeAt us vs) m
 
-  rows-back-to : (i : ℕ) → i < m → anyTwo (forbidden m) (drop i edges) ≡ true → isCrossed (tab (edgeAt us vs) m) ≡ true
-  rows-back-to zero h e = sym rows-all ∙ e
-  rows-back-to (suc i) h e = rows-back-to i (omega arith) (rows-back i (omega arith) (ap (λ (n : ℕ). anyTwo (forbidden m) (drop n edges)) (add-one i) ∙ e))
+  -- the rows are those of the edges' list
+  row-is : (i : ℕ) → i < m → row es i ≡ rowAt i
+  unfolding es
+  row-is i h = ap₂ (λ (n : ℕ) (e : Segment). any (forbidden n (i, e)) (drop (i + 1) edges)) (tab-length (edgeAt us vs) m) (tab-at (edgeAt us vs) m i _ h)
 
-  -- a row in which something is found
-  pub crossed-row : (i : ℕ) → i < m → any (forbidden m (i, edgeAt us vs i)) (drop (i + 1) edges) ≡ true → isCrossed (tab (edgeAt us vs) m) ≡ true
-  crossed-row i h e = rows-back-to i h (rows-here i h e)
+  module _ {i : ℕ} (c : Clear i) (h : i ≤ m) where
+    clear : (k : ℕ) → k < i → row es k ≡ false
+    clear k l = row-is k (omega arith) ∙ c .each k l
+
+    pub clear-found : i < m → rowAt i ≡ true → i ≡ crossedAt (tab (edgeAt us vs) m)
+    unfolding es
+    clear-found l e = row-first es i clear (omega (arith, tab-length (edgeAt us vs) m)) (row-is i l ∙ e)
+
+    pub clear-end : i ≡ m → i ≡ crossedAt (tab (edgeAt us vs) m)
+    unfolding es
+    clear-end z = row-none es i clear (z ∙ sym (tab-length (edgeAt us vs) m))

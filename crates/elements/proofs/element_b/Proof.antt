@@ -8,17 +8,23 @@ use Rattle.elements.proofs.element_b.Tie as tie
 enum-told : tie.Need-enum-told
 enum-told c = search needs
 
-enum-told-2 : tie.Need-enum-told-2
-enum-told-2 c = search needs
-
 enum-known-v : tie.Need-enum-known-v
 enum-known-v c = search needs
+
+finding-position-requires : tie.Need-finding-position-requires
+finding-position-requires c κs = search needs
+
+cast-result : tie.Need-cast-result
+cast-result c = search needs
+
+enum-known-v-2 : tie.Need-enum-known-v-2
+enum-known-v-2 c = search needs
 
 shape-b-requires : tie.Need-shape-b-requires
 shape-b-requires c κs = search needs
 
-enum-told-3 : tie.Need-enum-told-3
-enum-told-3 c = search needs
+enum-told-2 : tie.Need-enum-told-2
+enum-told-2 c = search needs
 
 returns : tie.Need-returns
 unfolding elementB
@@ -26,11 +32,11 @@ returns c = search needs
 
 returns-2 : tie.Need-returns-2
 unfolding elementB
-returns-2 c = search needs
+returns-2 c = c .finding-position .ensures ∙ sym (ap elementB (c .before .before .v .given .1))
 
 returns-3 : tie.Need-returns-3
 unfolding elementB
-returns-3 c = c .shape-b .ensures ∙ sym (ap elementB (c .before .before .v .given .1))
+returns-3 c = c .shape-b .ensures ∙ sym (ap elementB (c .before .before .v2 .given .1))
 
 returns-4 : tie.Need-returns-4
 unfolding elementB
@@ -41,10 +47,12 @@ element-b-spec =
     tie.close
     (tie.spec
     enum-told
-    enum-told-2
     enum-known-v
+    finding-position-requires
+    cast-result
+    enum-known-v-2
     shape-b-requires
-    enum-told-3
+    enum-told-2
     returns
     returns-2
     returns-3

@@ -4,7 +4,7 @@ use mathlib.Core.Path.{_≡_}
 use mathlib.Core.Logic.{_⊎_}
 use mathlib.Core.List.{List}
 use lib.ListN.{length, getD}
-use Rattle.whole.specs.held.Least.{LeastBelow}
+use Rattle.whole.specs.Least.{LeastBelow}
 use Rattle.words.specs.held.Words.{stepOf, nextOf, nodeOf}
 use Rattle.reach.specs.Reach.{Reach}
 use Rattle.reach.specs.held.Marking.{Joined, Marked, Marks, Flooded}

@@ -9,14 +9,14 @@ use lib.IntN.{ℤ, pos}
 use Rattle.whole.specs.Lists.{lists}
 use Rattle.whole.specs.held.Stored.{upto}
 use Rattle.shell.specs.held.Held.{ringAt}
-use Rattle.renew.specs.held.Renewed.{numberAt, partAt}
+use Rattle.renew.specs.held.Renewed.{keptAt, partAt}
 
 -- stamp, finding and part of polygon p, looked at again if its ring lists point n
 abbrev pub restamp : List ℕ → List ℕ → ℕ → ℕ → ℕ → ℕ → ℕ
 restamp entries starts number n p old = cond (lists n (ringAt entries starts p)) number old
 
 abbrev pub refind : ℕ → List ℤ → List ℕ → List ℕ → ℕ → ℕ → ℕ → ℕ
-refind tolerance points entries starts n p old = cond (lists n (ringAt entries starts p)) (numberAt tolerance points entries starts p) old
+refind tolerance points entries starts n p old = cond (lists n (ringAt entries starts p)) (keptAt tolerance points entries starts p) old
 
 abbrev pub repart : List ℤ → List ℕ → List ℕ → ℕ → ℕ → ℤ → ℤ
 repart points entries starts n p old = cond (lists n (ringAt entries starts p)) (partAt points entries starts p) old

@@ -11,7 +11,7 @@ use Rattle.whole.specs.Lists.{lists, tab}
 use Rattle.whole.specs.held.Stored.{upto}
 use Rattle.whole.specs.laws.Stores.{upto-done, length-upto}
 use Rattle.space.specs.Space.{Point}
-use Rattle.polygon.specs.Ring.{finding, findingNumber}
+use Rattle.polygon.specs.Ring.{finding}
 use Rattle.volume.specs.Part.{part}
 use Rattle.polygon.specs.laws.Kept.{finding-kept, part-kept}
 use Rattle.space.specs.held.Points.{pointsOf}
@@ -19,10 +19,11 @@ use Rattle.places.specs.held.Places.{placed, NearPlace}
 use Rattle.places.specs.laws.Near.{placed-points, placed-coords}
 use Rattle.shell.specs.held.Held.{ringAt, rings}
 use Rattle.building.specs.declared.Scalars.{Scalars}
+use Rattle.polygon.specs.held.Findings.{keptFinding}
 use Rattle.building.specs.Tables.{stampUsers, moved}
 use Rattle.whole.specs.laws.Places.{tab-length, tab-at}
 use Rattle.building.specs.held.Holds.{Arrays, arrays, heldTables, heldBuilding, Loaded, Found, Summed, Held, Did}
-use Rattle.renew.specs.held.Renewed.{numberAt, partAt}
+use Rattle.renew.specs.held.Renewed.{keptAt, partAt}
 use Rattle.moves.specs.held.Steps.{restamp, refind, repart, Looked}
 
 -- ---- looked at again, or as it was
@@ -32,10 +33,10 @@ again false e new old f = ap (λ (t : Bool). cond t new old) e ∙ f refl
 
 module _ (points : List ℤ) (entries starts : List ℕ) (s : Scalars) (few : s .polygons ≤ 256) (n : ℕ) (p : Point) (h : 3 * n + 2 < length points) where
   -- a ring that does not list the point keeps its finding and its part
-  number-kept : (q : ℕ) → lists n (ringAt entries starts q) ≡ false → numberAt (s .tolerance) (placed points n p) entries starts q ≡ numberAt (s .tolerance) points entries starts q
-  number-kept q f =
-      ap (λ (ps : List Point). findingNumber (finding (s .tolerance) ps (ringAt entries starts q))) (placed-points points n p h)
-      ∙ ap findingNumber (finding-kept (pointsOf points) n p (ringAt entries starts q) f (s .tolerance))
+  found-kept : (q : ℕ) → lists n (ringAt entries starts q) ≡ false → keptAt (s .tolerance) (placed points n p) entries starts q ≡ keptAt (s .tolerance) points entries starts q
+  found-kept q f =
+      ap (λ (ps : List Point). keptFinding (finding (s .tolerance) ps (ringAt entries starts q))) (placed-points points n p h)
+      ∙ ap keptFinding (finding-kept (pointsOf points) n p (ringAt entries starts q) f (s .tolerance))
 
   part-at-kept : (q : ℕ) → lists n (ringAt entries starts q) ≡ false → partAt (placed points n p) entries starts q ≡ partAt points entries starts q
   part-at-kept q f = ap (λ (ps : List Point). part ps (ringAt entries starts q)) (placed-points points n p h) ∙ part-kept (pointsOf points) n p (ringAt entries starts q) f
@@ -45,7 +46,7 @@ module _ (points : List ℤ) (entries starts : List ℕ) (s : Scalars) (few : s 
       record {
         size = length-upto (refind (s .tolerance) (placed points n p) entries starts n) 0 findings (s .polygons) ∙ k .size;
         each = λ q g. upto-done (refind (s .tolerance) (placed points n p) entries starts n) 0 findings (s .polygons) q g (omega (arith, k .size)) ∙
-            again (lists n (ringAt entries starts q)) refl (numberAt (s .tolerance) (placed points n p) entries starts q) (getD findings q 0) (λ f. k .each q g ∙ sym (number-kept q f));
+            again (lists n (ringAt entries starts q)) refl (keptAt (s .tolerance) (placed points n p) entries starts q) (getD findings q 0) (λ f. k .each q g ∙ sym (found-kept q f));
       }
 
   pub moved-summed : {parts : List ℤ} → Summed points entries starts parts s → Summed (placed points n p) entries starts (upto (repart (placed points n p) entries starts n) (pos 0) parts (s .polygons)) s

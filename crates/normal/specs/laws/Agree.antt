@@ -1,4 +1,4 @@
--- For each public function: any two results that its statement allows are one.
+-- For each public function, `normal` and `normal_of`: any two results that its statement allows are one.
 use Prim.Native.Nat.{ℕ}
 use mathlib.Core.Path.{_≡_}
 use mathlib.Core.List.{List}

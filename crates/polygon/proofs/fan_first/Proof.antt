@@ -10,12 +10,12 @@ use Rattle.space.specs.laws.Sizes.{near-same}
 use Rattle.normal.specs.laws.Sizes.{normal-near}
 use Rattle.space.specs.held.Points.{pointsOf, placeAt, Near, asPoint}
 use Rattle.normal.specs.Normal.{normal, isZero}
-use Rattle.even.specs.Even.{isUneven}
+use Rattle.even.specs.Even.{unevenAt}
 use Rattle.plane.specs.Plane.{largestAxis, dropAxis}
 use Rattle.fan.specs.held.Fan.{isFan}
 use Rattle.space.specs.Space.{Point, places}
 use Rattle.space.specs.declared.Axis.{Axis}
-use Rattle.polygon.proofs.Order.{found-uneven, found-sound}
+use Rattle.polygon.proofs.Order.{found-uneven, found-sound, even-is}
 use Rattle.polygon.proofs.Fans.{fan-single, fan-uncrossed}
 use Rattle.polygon.proofs.fan_first.Statement.{statement}
 use Rattle.polygon.proofs.fan_first.Tie as tie
@@ -39,8 +39,8 @@ fan c =
     let s = c .before .before .before .before .before .before in
     ap (λ (x : Axis). isFan (λ i. dropAxis x (placeAt (s .args .points .now) (getD (s .args .ring .now) i 0))) (length (s .args .ring .now) - 3)) (sym (c .before .before .largest-axis .ensures ∙ ap largestAxis (s .pre .1 .1 .1))) ∙ sym (c .before .is-fan .ensures) ∙ c .if2 .taken
 
-uneven-is : (c : tie.After-is-uneven-closed) → let s = c .before .before .before .before .before .before .before in isUneven (s .args .tolerance) (normal (spots s)) (spots s) ≡ c .is-uneven-closed .result
-uneven-is c = let s = c .before .before .before .before .before .before .before in ap (λ (n : Point). isUneven (s .args .tolerance) n (spots s)) (sym (s .pre .1 .1 .1)) ∙ sym (c .is-uneven-closed .ensures)
+uneven-is : (c : tie.After-first-uneven-closed) → let s = c .before .before .before .before .before .before .before in c .first-uneven-closed .result ≡ unevenAt (s .args .tolerance) (normal (spots s)) (spots s)
+uneven-is c = let s = c .before .before .before .before .before .before .before in c .first-uneven-closed .ensures ∙ ap (λ (n : Point). unevenAt (s .args .tolerance) n (spots s)) (s .pre .1 .1 .1)
 
 -- ---- the needs
 is-zero-requires : tie.Need-is-zero-requires
@@ -58,25 +58,28 @@ largest-axis-requires c κs = near (c .before .before .before)
 is-fan-requires : tie.Need-is-fan-requires
 is-fan-requires c κs = search needs
 
-is-uneven-closed-requires : tie.Need-is-uneven-closed-requires
-is-uneven-closed-requires c κs =
+first-uneven-closed-requires : tie.Need-first-uneven-closed-requires
+first-uneven-closed-requires c κs =
     let s = c .before .before .before .before .before .before in
     let h = s .pre .1 .1 .0 in
     (s .pre .0, (s .pre .1 .0, ((omega (arith, h .1), h .2, h .0), s .pre .1 .1 .1)))
 
+kept-at-requires : tie.Need-kept-at-requires
+kept-at-requires c κs = search needs
+
 returns-2 : tie.Need-returns-2
 returns-2 c =
-    let s = c .before .before .before .before .before .before .before .before in
+    let s = c .before .before .before .before .before .before .before .before .before in
     let h = s .pre .1 .1 .0 in
     let x = largestAxis (normal (spots s)) in
-    found-uneven (s .args .tolerance) (table s) (s .args .ring .now) (h .1) (h .2) (fan-single (s .pre .0) (s .pre .1 .0) (h .1) (h .2) x (fan (c .before .before))) (some (c .before .before .before .before .before)) (fan-uncrossed (s .pre .0) (s .pre .1 .0) (h .1) (h .2) x (fan (c .before .before))) (uneven-is (c .before) ∙ c .if3 .taken)
+    c .kept-at .ensures ∙ found-uneven (s .args .tolerance) (table s) (s .args .ring .now) (h .1) (h .2) (fan-single (s .pre .0) (s .pre .1 .0) (h .1) (h .2) x (fan (c .before .before .before))) (some (c .before .before .before .before .before .before)) (fan-uncrossed (s .pre .0) (s .pre .1 .0) (h .1) (h .2) x (fan (c .before .before .before))) (uneven-is (c .before .before)) (c .before .if3 .taken)
 
 returns-3 : tie.Need-returns-3
 returns-3 c =
     let s = c .before .before .before .before .before .before .before .before in
     let h = s .pre .1 .1 .0 in
     let x = largestAxis (normal (spots s)) in
-    found-sound (s .args .tolerance) (table s) (s .args .ring .now) (h .1) (h .2) (fan-single (s .pre .0) (s .pre .1 .0) (h .1) (h .2) x (fan (c .before .before))) (some (c .before .before .before .before .before)) (fan-uncrossed (s .pre .0) (s .pre .1 .0) (h .1) (h .2) x (fan (c .before .before))) (uneven-is (c .before) ∙ c .if3 .left)
+    found-sound (s .args .tolerance) (table s) (s .args .ring .now) (h .1) (h .2) (fan-single (s .pre .0) (s .pre .1 .0) (h .1) (h .2) x (fan (c .before .before))) (some (c .before .before .before .before .before)) (fan-uncrossed (s .pre .0) (s .pre .1 .0) (h .1) (h .2) x (fan (c .before .before))) (even-is (s .args .tolerance) (table s) (s .args .ring .now) (uneven-is (c .before)) (c .if3 .left))
 
 third-on-requires-2 : tie.Need-third-on-requires-2
 third-on-requires-2 c κs = search needs
@@ -93,7 +96,8 @@ fan-first-spec =
     returns
     largest-axis-requires
     is-fan-requires
-    is-uneven-closed-requires
+    first-uneven-closed-requires
+    kept-at-requires
     returns-2
     returns-3
     third-on-requires-2

@@ -10,12 +10,12 @@ use Rattle.space.specs.held.Points.{pointsOf, Near, asPoint}
 use Rattle.ring.specs.Entries.{isRepeated}
 use Rattle.normal.specs.Normal.{normal, isZero}
 use Rattle.polygon.specs.Ring.{edgesIn}
-use Rattle.crossing.specs.Crossed.{isCrossed}
-use Rattle.even.specs.Even.{isUneven}
+use Rattle.crossing.specs.Crossed.{isCrossed, crossedAt}
+use Rattle.even.specs.Even.{unevenAt}
 use Rattle.plane.specs.Plane.{largestAxis}
 use Rattle.space.specs.Space.{Point, places}
 use Rattle.space.specs.declared.Axis.{Axis}
-use Rattle.polygon.proofs.Order.{found-repeated, found-no-normal, found-crossed, found-uneven, found-sound}
+use Rattle.polygon.proofs.Order.{found-repeated, found-no-normal, found-crossed, found-uneven, found-sound, single-is, uncrossed-is, even-is}
 use Rattle.polygon.proofs.third_on.Statement.{statement}
 use Rattle.polygon.proofs.third_on.Tie as tie
 
@@ -31,7 +31,7 @@ near c = near-same (c .pre .1 .1 .1) (normal-near (c .pre .0) (c .pre .1 .0))
 
 -- ---- what each check told
 single : (c : tie.Else1) → isRepeated (c .before .before .before .args .ring .now) ≡ false
-single c = sym (c .before .is-repeated .ensures) ∙ c .if1 .left
+single c = let s = c .before .before .before in single-is (s .args .tolerance) (table s) (s .args .ring .now) (c .before .first-repeated .ensures) (c .if1 .left)
 
 zero-is : (c : tie.After-is-zero) → isZero (normal (spots (c .before .before .before .before))) ≡ c .is-zero .result
 zero-is c = ap isZero (sym (c .before .before .before .before .pre .1 .1 .1)) ∙ sym (c .is-zero .ensures)
@@ -39,26 +39,32 @@ zero-is c = ap isZero (sym (c .before .before .before .before .pre .1 .1 .1)) �
 some : (c : tie.Else2) → isZero (normal (spots (c .before .before .before .before .before))) ≡ false
 some c = zero-is (c .before) ∙ c .if2 .left
 
-crossed-is : (c : tie.After-is-crossed) → let s = spots (c .before .before .before .before .before .before .before) in isCrossed (edgesIn (largestAxis (normal s)) s) ≡ c .is-crossed .result
+crossed-is : (c : tie.After-first-crossed) → let s = spots (c .before .before .before .before .before .before .before) in c .first-crossed .result ≡ crossedAt (edgesIn (largestAxis (normal s)) s)
 crossed-is c =
     let s = c .before .before .before .before .before .before .before in
-    ap (λ (x : Axis). isCrossed (edgesIn x (spots s))) (sym (c .before .largest-axis .ensures ∙ ap largestAxis (s .pre .1 .1 .1))) ∙ sym (c .is-crossed .ensures)
+    c .first-crossed .ensures ∙ ap (λ (x : Axis). crossedAt (edgesIn x (spots s))) (c .before .largest-axis .ensures ∙ ap largestAxis (s .pre .1 .1 .1))
 
 uncrossed : (c : tie.Else3) → let s = spots (c .before .before .before .before .before .before .before .before) in isCrossed (edgesIn (largestAxis (normal s)) s) ≡ false
-uncrossed c = crossed-is (c .before) ∙ c .if3 .left
+uncrossed c = let s = c .before .before .before .before .before .before .before .before in uncrossed-is (s .args .tolerance) (table s) (s .args .ring .now) (crossed-is (c .before)) (c .if3 .left)
 
-uneven-is : (c : tie.After-is-uneven) → let s = c .before .before .before .before .before .before .before .before .before in isUneven (s .args .tolerance) (normal (spots s)) (spots s) ≡ c .is-uneven .result
-uneven-is c = let s = c .before .before .before .before .before .before .before .before .before in ap (λ (n : Point). isUneven (s .args .tolerance) n (spots s)) (sym (s .pre .1 .1 .1)) ∙ sym (c .is-uneven .ensures)
+uneven-is : (c : tie.After-first-uneven) → let s = c .before .before .before .before .before .before .before .before .before in c .first-uneven .result ≡ unevenAt (s .args .tolerance) (normal (spots s)) (spots s)
+uneven-is c = let s = c .before .before .before .before .before .before .before .before .before in c .first-uneven .ensures ∙ ap (λ (n : Point). unevenAt (s .args .tolerance) n (spots s)) (s .pre .1 .1 .1)
 
 -- ---- the needs
-is-repeated-requires : tie.Need-is-repeated-requires
-is-repeated-requires c κs = search needs
+sub-edges : tie.Need-sub-edges
+sub-edges c = search needs
+
+first-repeated-requires : tie.Need-first-repeated-requires
+first-repeated-requires c κs = search needs
+
+kept-at-requires : tie.Need-kept-at-requires
+kept-at-requires c κs = search needs
 
 returns : tie.Need-returns
 returns c =
-    let s = c .before .before .before in
+    let s = c .before .before .before .before in
     let h = s .pre .1 .1 .0 in
-    found-repeated (s .args .tolerance) (table s) (s .args .ring .now) (h .1) (h .2) (sym (c .before .is-repeated .ensures) ∙ c .if1 .taken)
+    c .kept-at .ensures ∙ found-repeated (s .args .tolerance) (table s) (s .args .ring .now) (h .1) (h .2) (c .before .before .first-repeated .ensures) (c .before .if1 .taken)
 
 is-zero-requires : tie.Need-is-zero-requires
 is-zero-requires c κs = near (c .before .before .before)
@@ -72,44 +78,54 @@ returns-2 c =
 largest-axis-requires : tie.Need-largest-axis-requires
 largest-axis-requires c κs = near (c .before .before .before .before .before)
 
-is-crossed-requires : tie.Need-is-crossed-requires
-is-crossed-requires c κs = search needs
+first-crossed-requires : tie.Need-first-crossed-requires
+first-crossed-requires c κs = search needs
+
+kept-at-requires-2 : tie.Need-kept-at-requires-2
+kept-at-requires-2 c κs = search needs
 
 returns-3 : tie.Need-returns-3
 returns-3 c =
-    let s = c .before .before .before .before .before .before .before .before in
+    let s = c .before .before .before .before .before .before .before .before .before in
     let h = s .pre .1 .1 .0 in
-    found-crossed (s .args .tolerance) (table s) (s .args .ring .now) (h .1) (h .2) (single (c .before .before .before .before .before)) (some (c .before .before .before)) (crossed-is (c .before) ∙ c .if3 .taken)
+    c .kept-at2 .ensures ∙ found-crossed (s .args .tolerance) (table s) (s .args .ring .now) (h .1) (h .2) (single (c .before .before .before .before .before .before)) (some (c .before .before .before .before)) (crossed-is (c .before .before)) (c .before .if3 .taken)
 
-is-uneven-requires : tie.Need-is-uneven-requires
-is-uneven-requires c κs =
+first-uneven-requires : tie.Need-first-uneven-requires
+first-uneven-requires c κs =
     let s = c .before .before .before .before .before .before .before .before in
     let h = s .pre .1 .1 .0 in
     (s .pre .0, (s .pre .1 .0, ((omega (arith, h .1), h .0), near s)))
 
+kept-at-requires-3 : tie.Need-kept-at-requires-3
+kept-at-requires-3 c κs = search needs
+
 returns-4 : tie.Need-returns-4
 returns-4 c =
-    let s = c .before .before .before .before .before .before .before .before .before .before in
+    let s = c .before .before .before .before .before .before .before .before .before .before .before in
     let h = s .pre .1 .1 .0 in
-    found-uneven (s .args .tolerance) (table s) (s .args .ring .now) (h .1) (h .2) (single (c .before .before .before .before .before .before .before)) (some (c .before .before .before .before .before)) (uncrossed (c .before .before)) (uneven-is (c .before) ∙ c .if4 .taken)
+    c .kept-at3 .ensures ∙ found-uneven (s .args .tolerance) (table s) (s .args .ring .now) (h .1) (h .2) (single (c .before .before .before .before .before .before .before .before)) (some (c .before .before .before .before .before .before)) (uncrossed (c .before .before .before)) (uneven-is (c .before .before)) (c .before .if4 .taken)
 
 returns-5 : tie.Need-returns-5
 returns-5 c =
     let s = c .before .before .before .before .before .before .before .before .before .before in
     let h = s .pre .1 .1 .0 in
-    found-sound (s .args .tolerance) (table s) (s .args .ring .now) (h .1) (h .2) (single (c .before .before .before .before .before .before .before)) (some (c .before .before .before .before .before)) (uncrossed (c .before .before)) (uneven-is (c .before) ∙ c .if4 .left)
+    found-sound (s .args .tolerance) (table s) (s .args .ring .now) (h .1) (h .2) (single (c .before .before .before .before .before .before .before)) (some (c .before .before .before .before .before)) (uncrossed (c .before .before)) (even-is (s .args .tolerance) (table s) (s .args .ring .now) (uneven-is (c .before)) (c .if4 .left))
 
 pub third-on-spec : {M : Type 1} → statement M
 third-on-spec =
     tie.close
     (tie.spec
-    is-repeated-requires
+    sub-edges
+    first-repeated-requires
+    kept-at-requires
     returns
     is-zero-requires
     returns-2
     largest-axis-requires
-    is-crossed-requires
+    first-crossed-requires
+    kept-at-requires-2
     returns-3
-    is-uneven-requires
+    first-uneven-requires
+    kept-at-requires-3
     returns-4
     returns-5)

@@ -11,21 +11,22 @@ use Rattle.polygon.specs.declared.Finding.the-variants.{Sound, Short, Un
 use Rattle.space.specs.Space.{Point, places}
 use Rattle.plane.specs.Plane.{largestAxis}
 use Rattle.polygon.specs.Ring.{finding, findingNumber, isShort, edgesIn}
-use Rattle.ring.specs.Entries.{isUnclosed, isRepeated}
+use Rattle.ring.specs.Entries.{isUnclosed, isRepeated, repeatedAt}
 use Rattle.normal.specs.Normal.{normal, isZero}
-use Rattle.crossing.specs.Crossed.{isCrossed}
-use Rattle.even.specs.Even.{isUneven}
+use Rattle.crossing.specs.Crossed.{isCrossed, crossedAt}
+use Rattle.even.specs.Even.{isUneven, unevenAt}
 
 unfoldable pub checks : ℕ → List Point → List ℕ → List (Bool × Finding)
 checks tolerance points ring =
     let ps = places points ring in
     let n = normal ps in
+    let es = edgesIn (largestAxis n) ps in
     (isShort ring, Short)
     ∷ (isUnclosed ring, Unclosed)
-    ∷ (isRepeated ring, Repeated)
+    ∷ (isRepeated ring, Repeated (repeatedAt ring))
     ∷ (isZero n, NoNormal)
-    ∷ (isCrossed (edgesIn (largestAxis n) ps), Crossed)
-    ∷ (isUneven tolerance n ps, Uneven)
+    ∷ (isCrossed es, Crossed (crossedAt es))
+    ∷ (isUneven tolerance n ps, Uneven (unevenAt tolerance n ps))
     ∷ []
 
 pub finding-rows : (tolerance : ℕ) (points : List Point) (ring : List ℕ) → finding tolerance points ring ≡ first Sound (rows (checks tolerance points ring))

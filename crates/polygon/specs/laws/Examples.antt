@@ -32,7 +32,7 @@ pub at-the-tolerance : finding 10 (lifted 20) closed ≡ Sound
 unfolding lists-compute space-computes plane-computes ring-computes
 at-the-tolerance = refl
 
-pub above-the-tolerance : finding 10 (lifted 21) closed ≡ Uneven
+pub above-the-tolerance : finding 10 (lifted 21) closed ≡ Uneven 1
 unfolding lists-compute space-computes plane-computes ring-computes
 above-the-tolerance = refl
 
@@ -56,7 +56,7 @@ pub saddle-at : finding 10 (saddle 10) closed ≡ Sound
 unfolding lists-compute space-computes plane-computes ring-computes
 saddle-at = refl
 
-pub saddle-above : finding 10 (saddle 11) closed ≡ Uneven
+pub saddle-above : finding 10 (saddle 11) closed ≡ Uneven 1
 unfolding lists-compute space-computes plane-computes ring-computes
 saddle-above = refl
 
@@ -64,7 +64,7 @@ pub even-bow-tie : finding 0 (tied 1000) closed ≡ NoNormal
 unfolding lists-compute space-computes plane-computes ring-computes
 even-bow-tie = refl
 
-pub uneven-bow-tie : finding 0 (tied 2000) closed ≡ Crossed
+pub uneven-bow-tie : finding 0 (tied 2000) closed ≡ Crossed 0
 unfolding lists-compute space-computes plane-computes ring-computes
 uneven-bow-tie = refl
 
@@ -78,7 +78,7 @@ unfolding plane-computes
 tie-to-y = refl
 
 -- "with the last entry left aside, some number stands twice (the first entry's number too)"
-pub first-again : finding 0 (lifted 0) (0 ∷ 1 ∷ 0 ∷ 0 ∷ []) ≡ Repeated
+pub first-again : finding 0 (lifted 0) (0 ∷ 1 ∷ 0 ∷ 0 ∷ []) ≡ Repeated 2
 unfolding lists-compute space-computes plane-computes ring-computes
 first-again = refl
 

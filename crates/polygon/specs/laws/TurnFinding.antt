@@ -1,4 +1,4 @@
--- Turning never changes a finding.
+-- Turning never changes a finding, but for its position.
 use Prim.Native.Nat.{ℕ, _<_}
 use mathlib.Core.Path.{_≡_, refl, sym, ap, ap₂, _∙_}
 use mathlib.Core.Bool.{Bool, true, false, not, cond}
@@ -17,15 +17,17 @@ use Rattle.space.specs.declared.Axis.{Axis}
 use Rattle.polygon.specs.declared.Finding.{Finding}
 use Rattle.polygon.specs.declared.Finding.the-variants.{Sound, Short, Unclosed, Repeated, NoNormal, Crossed, Uneven}
 use Rattle.plane.specs.Plane.{largestAxis, Spot, dropAxis, Segment}
-use Rattle.polygon.specs.Ring.{isShort, edgesIn, finding}
-use Rattle.ring.specs.Entries.{isUnclosed, isRepeated}
+use Rattle.polygon.specs.Ring.{isShort, edgesIn, finding, findingNumber}
+use Rattle.ring.specs.Entries.{isUnclosed, isRepeated, repeatedAt}
 use Rattle.normal.specs.Normal.{relative, normal, isZero}
-use Rattle.crossing.specs.Crossed.{forbidden, isCrossed}
-use Rattle.even.specs.Even.{square, squares, exceeds, isUneven}
+use Rattle.crossing.specs.Crossed.{forbidden, isCrossed, crossedAt}
+use Rattle.even.specs.Even.{square, squares, exceeds, isUneven, unevenAt}
 use Rattle.whole.specs.laws.Same.{eqb-sym}
 use Rattle.volume.specs.laws.Turn.{sum-reverse, firstOf, first-reverseAux, last-map}
 use Rattle.plane.specs.laws.PlaneTurn.{zero-neg}
 use Rattle.crossing.specs.laws.CrossedTurn.{forbidden-back}
+use Rattle.polygon.specs.laws.Position.{number-same}
+use Rattle.polygon.specs.held.Position.{hasPosition}
 
 -- ---- the opposite way
 
@@ -148,24 +150,43 @@ unclosed-turned (a ∷ l) =
     ∙ ap₂ (λ (p q : ℕ). not (eqb p q)) (first-reverseAux 0 l a []) (last-reverseAux 0 l a [])
     ∙ ap not (eqb-sym (lastOf a l) a)
 
--- ---- the finding, as a function of the six tests
+-- ---- the finding, as a function of the six tests and the positions
 
-rows : Bool → Bool → Bool → Bool → Bool → Bool → Finding
-rows s u r n c e = first Sound (given s Short ∷ given u Unclosed ∷ given r Repeated ∷ given n NoNormal ∷ given c Crossed ∷ given e Uneven ∷ [])
+rows : Bool → Bool → Bool → ℕ → Bool → Bool → ℕ → Bool → ℕ → Finding
+rows s u r i n c j e k =
+    first Sound (given s Short ∷ given u Unclosed ∷ given r (Repeated i) ∷ given n NoNormal ∷ given c (Crossed j) ∷ given e (Uneven k) ∷ [])
 
-finding-rows : (tolerance : ℕ) (points : List Point) (r : List ℕ) → finding tolerance points r
-    ≡ rows (isShort r) (isUnclosed r) (isRepeated r) (isZero (normal (places points r))) (isCrossed (edgesIn (largestAxis (normal (places points r))) (places points r))) (isUneven tolerance (normal (places points r)) (places points r))
+finding-rows : (tolerance : ℕ) (points : List Point) (r : List ℕ) → let ps = places points r in let n = normal ps in let es = edgesIn (largestAxis n) ps in
+    finding tolerance points r ≡ rows (isShort r) (isUnclosed r) (isRepeated r) (repeatedAt r) (isZero n) (isCrossed es) (crossedAt es) (isUneven tolerance n ps) (unevenAt tolerance n ps)
 unfolding finding rows
 finding-rows tolerance points r = refl
 
--- what comes after 02 does not matter to an Unclosed ring
-rows-unclosed : (s u r n c e : Bool) → u ≡ true → rows s u r n c e ≡ cond s Short Unclosed
-unfolding rows first given
-rows-unclosed true u r n c e q = refl
-rows-unclosed false u r n c e q = rw q
+-- its number, which the positions do not change
+numbers : Bool → Bool → Bool → Bool → Bool → Bool → ℕ
+numbers s u r n c e = first 0 (given s 1 ∷ given u 2 ∷ given r 3 ∷ given n 4 ∷ given c 5 ∷ given e 6 ∷ [])
 
-finding-unclosed : (tolerance : ℕ) (points : List Point) (r : List ℕ) → isUnclosed r ≡ true → finding tolerance points r ≡ cond (isShort r) Short Unclosed
-finding-unclosed tolerance points r q = finding-rows tolerance points r ∙ rows-unclosed (isShort r) (isUnclosed r) _ _ _ _ q
+numbers-are : (s u r : Bool) (i : ℕ) (n c : Bool) (j : ℕ) (e : Bool) (k : ℕ) → findingNumber (rows s u r i n c j e k) ≡ numbers s u r n c e
+unfolding rows numbers first given findingNumber
+numbers-are true u r i n c j e k = refl
+numbers-are false true r i n c j e k = refl
+numbers-are false false true i n c j e k = refl
+numbers-are false false false i true c j e k = refl
+numbers-are false false false i false true j e k = refl
+numbers-are false false false i false false j true k = refl
+numbers-are false false false i false false j false k = refl
+
+number-rows : (tolerance : ℕ) (points : List Point) (r : List ℕ) → let ps = places points r in let n = normal ps in
+    findingNumber (finding tolerance points r) ≡ numbers (isShort r) (isUnclosed r) (isRepeated r) (isZero n) (isCrossed (edgesIn (largestAxis n) ps)) (isUneven tolerance n ps)
+number-rows tolerance points r = ap findingNumber (finding-rows tolerance points r) ∙ numbers-are _ _ _ _ _ _ _ _ _
+
+-- what comes after 02 does not matter to an Unclosed ring
+numbers-unclosed : (s u r n c e : Bool) → u ≡ true → numbers s u r n c e ≡ cond s 1 2
+unfolding numbers first given
+numbers-unclosed true u r n c e q = refl
+numbers-unclosed false u r n c e q = rw q
+
+number-unclosed : (tolerance : ℕ) (points : List Point) (r : List ℕ) → isUnclosed r ≡ true → findingNumber (finding tolerance points r) ≡ cond (isShort r) 1 2
+number-unclosed tolerance points r q = number-rows tolerance points r ∙ numbers-unclosed (isShort r) (isUnclosed r) _ _ _ _ q
 
 short-turned : (r : List ℕ) → isShort (reverse r) ≡ isShort r
 unfolding isShort
@@ -206,22 +227,26 @@ module _ (tolerance : ℕ) (points : List Point) (a : ℕ) (l : List ℕ) (close
   unfolding isRepeated
   turned-repeated = anyTwo-turned (λ x y. eqb x y) (λ x y. eqb-sym x y) a l closed
 
-  closed-turned : finding tolerance points (reverse (a ∷ l)) ≡ finding tolerance points (a ∷ l)
+  closed-turned : findingNumber (finding tolerance points (reverse (a ∷ l))) ≡ findingNumber (finding tolerance points (a ∷ l))
   unfolding here
   closed-turned =
-      finding-rows tolerance points (reverse (a ∷ l))
-      ∙ (λ i. rows (short-turned (a ∷ l) i) (unclosed-turned (a ∷ l) i) (turned-repeated i) (turned-zero i) (turned-crossed i) (turned-uneven i))
-      ∙ sym (finding-rows tolerance points (a ∷ l))
+      number-rows tolerance points (reverse (a ∷ l))
+      ∙ (λ i. numbers (short-turned (a ∷ l) i) (unclosed-turned (a ∷ l) i) (turned-repeated i) (turned-zero i) (turned-crossed i) (turned-uneven i))
+      ∙ sym (number-rows tolerance points (a ∷ l))
 
--- Turning never changes a finding.
-pub finding-turned : (tolerance : ℕ) (points : List Point) (r : List ℕ) → finding tolerance points (reverse r) ≡ finding tolerance points r
+-- Turning never changes a finding's number.
+pub number-turned : (tolerance : ℕ) (points : List Point) (r : List ℕ) → findingNumber (finding tolerance points (reverse r)) ≡ findingNumber (finding tolerance points r)
 unfolding isUnclosed
-finding-turned tolerance points [] = refl
-finding-turned tolerance points (a ∷ l) = go (isUnclosed (a ∷ l)) refl
+number-turned tolerance points [] = refl
+number-turned tolerance points (a ∷ l) = go (isUnclosed (a ∷ l)) refl
   where
-    go : (b : Bool) → isUnclosed (a ∷ l) ≡ b → finding tolerance points (reverse (a ∷ l)) ≡ finding tolerance points (a ∷ l)
+    go : (b : Bool) → isUnclosed (a ∷ l) ≡ b → findingNumber (finding tolerance points (reverse (a ∷ l))) ≡ findingNumber (finding tolerance points (a ∷ l))
     go true e =
-        finding-unclosed tolerance points (reverse (a ∷ l)) (unclosed-turned (a ∷ l) ∙ e)
-        ∙ ap (λ (s : Bool). cond s Short Unclosed) (short-turned (a ∷ l))
-        ∙ sym (finding-unclosed tolerance points (a ∷ l) e)
+        number-unclosed tolerance points (reverse (a ∷ l)) (unclosed-turned (a ∷ l) ∙ e)
+        ∙ ap (λ (s : Bool). cond s 1 2) (short-turned (a ∷ l))
+        ∙ sym (number-unclosed tolerance points (a ∷ l) e)
     go false e = closed-turned tolerance points a l (sym (eqb-true a (lastOf a l) (not-false (eqb a (lastOf a l)) e)))
+
+-- nor a finding that has no position
+pub finding-turned : (tolerance : ℕ) (points : List Point) (r : List ℕ) → hasPosition (finding tolerance points r) ≡ false → finding tolerance points (reverse r) ≡ finding tolerance points r
+finding-turned tolerance points r h = sym (number-same (finding tolerance points r) (finding tolerance points (reverse r)) h (sym (number-turned tolerance points r)))

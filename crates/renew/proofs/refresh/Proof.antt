@@ -1,11 +1,10 @@
 -- `renew::refresh` meets its contract: what the polygon's code gives for the ring is stored.
 use Prim.Native.Nat.{ℕ}
-use mathlib.Core.Path.{ap, _∙_}
+use mathlib.Core.Path.{ap}
 use lib.ListN.{set}
 use lib.IntN.{ℤ}
 use mir.Syntax.{w64}
 use Rattle.whole.specs.laws.Size.{call-is}
-use Rattle.polygon.specs.Ring.{findingNumber}
 use borrow.Author.Needs.{needs}
 use Rattle.renew.proofs.refresh.Statement.{statement}
 use Rattle.renew.proofs.refresh.Tie as tie
@@ -46,8 +45,8 @@ part-ring-end c = search needs
 look-at-requires : tie.Need-look-at-requires
 look-at-requires c κs = search needs
 
-finding-number-requires : tie.Need-finding-number-requires
-finding-number-requires c κs = search needs
+mul-findings : tie.Need-mul-findings
+mul-findings c = search needs
 
 element-write-findings : tie.Need-element-write-findings
 element-write-findings c = search needs
@@ -60,10 +59,11 @@ element-set-from-part c = search needs
 
 returns : tie.Need-returns
 returns c =
-    let a = c .before .before .before .before .before .before .before .args in
+    let a = c .before .before .before .before .before .before .args in
+    let l = c .before .look-at .ensures in
     record {
-      found = ap (λ (v : ℕ). set (a .findings .now) (a .p) v) (c .finding-number .ensures ∙ ap findingNumber (c .before .before .look-at .ensures .0));
-      summed = ap (λ (z : ℤ). set (a .parts .now) (a .p) z) (call-is w64 (c .before .struct-told .given .1 .0 .1) (c .before .before .look-at .ensures .1));
+      found = ap (λ (v : ℕ). set (a .findings .now) (a .p) v) (l .0);
+      summed = ap (λ (z : ℤ). set (a .parts .now) (a .p) z) (call-is w64 (c .struct-told .given .1 .0 .1) (l .1));
     }
 
 pub refresh-spec : {M : Type 1} → statement M
@@ -82,7 +82,7 @@ refresh-spec =
     part-ring-start
     part-ring-end
     look-at-requires
-    finding-number-requires
+    mul-findings
     element-write-findings
     mul-part
     element-set-from-part

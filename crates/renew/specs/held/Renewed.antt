@@ -1,22 +1,23 @@
--- What looking at a polygon anew writes: the number of its finding, and its part.
+-- What looking at a polygon anew writes: its finding, and its part.
 use Prim.Native.Nat.{ℕ}
 use mathlib.Core.Path.{_≡_}
 use mathlib.Core.List.{List}
 use lib.ListN.{set}
 use lib.IntN.{ℤ}
-use Rattle.polygon.specs.Ring.{finding, findingNumber}
+use Rattle.polygon.specs.Ring.{finding}
 use Rattle.volume.specs.Part.{part}
 use Rattle.space.specs.held.Points.{pointsOf}
 use Rattle.shell.specs.held.Held.{ringAt}
+use Rattle.polygon.specs.held.Findings.{keptFinding}
 
--- the number of ring p's finding, and its part
-abbrev pub numberAt : ℕ → List ℤ → List ℕ → List ℕ → ℕ → ℕ
-numberAt tolerance points entries starts p = findingNumber (finding tolerance (pointsOf points) (ringAt entries starts p))
+-- ring p's finding as it is kept, and its part
+abbrev pub keptAt : ℕ → List ℤ → List ℕ → List ℕ → ℕ → ℕ
+keptAt tolerance points entries starts p = keptFinding (finding tolerance (pointsOf points) (ringAt entries starts p))
 
 abbrev pub partAt : List ℤ → List ℕ → List ℕ → ℕ → ℤ
 partAt points entries starts p = part (pointsOf points) (ringAt entries starts p)
 
 -- finding and part of polygon p, anew
 pub record Refreshed (tolerance : ℕ) (points : List ℤ) (entries starts : List ℕ) (p : ℕ) (findings : List ℕ) (parts : List ℤ) (findings' : List ℕ) (parts' : List ℤ) : Type 0 where
-  pub found : findings' ≡ set findings p (numberAt tolerance points entries starts p)
+  pub found : findings' ≡ set findings p (keptAt tolerance points entries starts p)
   pub summed : parts' ≡ set parts p (partAt points entries starts p)

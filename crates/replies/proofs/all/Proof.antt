@@ -29,8 +29,8 @@ fresh-starts-requires c κs = search needs
 fresh-stamps-requires : tie.Need-fresh-stamps-requires Inv-loop μ-loop
 fresh-stamps-requires c κs = search needs
 
-fresh-bytes-requires : tie.Need-fresh-bytes-requires Inv-loop μ-loop
-fresh-bytes-requires c κs = search needs
+fresh-findings-requires : tie.Need-fresh-findings-requires Inv-loop μ-loop
+fresh-findings-requires c κs = search needs
 
 fresh-parts-requires : tie.Need-fresh-parts-requires Inv-loop μ-loop
 fresh-parts-requires c κs = search needs
@@ -38,8 +38,8 @@ fresh-parts-requires c κs = search needs
 fresh-table-requires : tie.Need-fresh-table-requires Inv-loop μ-loop
 fresh-table-requires c κs = search needs
 
-fresh-bytes-requires-2 : tie.Need-fresh-bytes-requires-2 Inv-loop μ-loop
-fresh-bytes-requires-2 c κs = search needs
+fresh-turned-requires : tie.Need-fresh-turned-requires Inv-loop μ-loop
+fresh-turned-requires c κs = search needs
 
 idle-requires : tie.Need-idle-requires Inv-loop μ-loop
 idle-requires c κs = search needs
@@ -47,7 +47,7 @@ idle-requires c κs = search needs
 loop-holds : tie.Need-loop-holds Inv-loop μ-loop
 loop-holds c =
     running-idle (c .before .before .before .before .before .before .before .before .before .before .before .args .stream .now) (c .before .before .before .before .before .before .before .before .before .before .before .args .room .now) _ (c .idle .result) (c .idle .ensures) (valid-idle _ (c .before .before .before .before .before .before .before .before .fresh-points .ensures) (c .before .before .before .before .before .before .before .fresh-entries .ensures) (c .before .before .before .before .before .before .fresh-starts .ensures .0) (c .before .before .before .before .before .before .fresh-starts .ensures .1)
-    (record { stamps = c .before .before .before .before .before .fresh-stamps .ensures; findings = c .before .before .before .before .fresh-bytes .ensures; parts = c .before .before .before .fresh-parts .ensures; table = c .before .before .fresh-table .ensures .0; turned = c .before .fresh-bytes2 .ensures }) (c .before .before .fresh-table .ensures .1)) (c .before .before .before .before .before .before .before .before .before .before .before .pre .1)
+    (record { stamps = c .before .before .before .before .before .fresh-stamps .ensures; findings = c .before .before .before .before .fresh-findings .ensures; parts = c .before .before .before .fresh-parts .ensures; table = c .before .before .fresh-table .ensures .0; turned = c .before .fresh-turned .ensures }) (c .before .before .fresh-table .ensures .1)) (c .before .before .before .before .before .before .before .before .before .before .before .pre .1)
 
 line-end-requires : tie.Need-line-end-requires Inv-loop μ-loop
 line-end-requires c κs = search needs
@@ -120,10 +120,10 @@ all-spec =
     fresh-entries-requires
     fresh-starts-requires
     fresh-stamps-requires
-    fresh-bytes-requires
+    fresh-findings-requires
     fresh-parts-requires
     fresh-table-requires
-    fresh-bytes-requires-2
+    fresh-turned-requires
     idle-requires
     loop-holds
     line-end-requires

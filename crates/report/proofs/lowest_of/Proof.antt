@@ -15,6 +15,9 @@ abbrev μ-loop : tie.MeasureT-loop
 loop-holds : tie.Need-loop-holds Inv-loop μ-loop
 loop-holds c = searched-none (c .args .findings .now) (c .args .n) (omega arith)
 
+mul-if1 : tie.Need-mul-if1 Inv-loop μ-loop
+mul-if1 c = search needs
+
 element-copy-out-if1 : tie.Need-element-copy-out-if1 Inv-loop μ-loop
 element-copy-out-if1 c = search needs
 
@@ -49,6 +52,7 @@ lowest-of-spec =
     Inv-loop
     μ-loop
     loop-holds
+    mul-if1
     element-copy-out-if1
     returns
     add-i

@@ -2,7 +2,7 @@
 use native.Mathlib.Omega.{arith}
 use mathlib.Core.Path.{sym, _∙_}
 use mir.Facts.{toZ-ofZ}
-use Rattle.report.specs.laws.Told.{told-low, told-number, told-faulty, says-unsound, says-inward, says-accepted}
+use Rattle.report.specs.laws.Told.{told-low, told-faulty, says-unsound, says-inward, says-accepted}
 use borrow.Author.Needs.{needs}
 use Rattle.report.proofs.verdict_of.Statement.{statement}
 use Rattle.report.proofs.verdict_of.Tie as tie
@@ -10,15 +10,20 @@ use Rattle.report.proofs.verdict_of.Tie as tie
 lowest-of-requires : tie.Need-lowest-of-requires
 lowest-of-requires c κs = search needs
 
+mul-finding-from : tie.Need-mul-finding-from
+mul-finding-from c =
+    let p = c .before .before .pre in
+    let l = told-low (p .0) (p .1 .0) (c .lowest-of .ensures) (p .1 .1 .0) (c .before .if1 .taken) in
+    let f = p .0 .begins .few in
+    search needs
+
 element-copy-out-finding-from : tie.Need-element-copy-out-finding-from
 element-copy-out-finding-from c =
     let p = c .before .before .pre in
     omega (arith, told-low (p .0) (p .1 .0) (c .lowest-of .ensures) (p .1 .1 .0) (c .before .if1 .taken), p .0 .begins .few)
 
 finding-from-requires : tie.Need-finding-from-requires
-finding-from-requires c κs =
-    let p = c .before .before .before .pre in
-    told-number (p .0) (p .1 .0) (c .before .lowest-of .result) (told-low (p .0) (p .1 .0) (c .before .lowest-of .ensures) (p .1 .1 .0) (c .before .before .if1 .taken))
+finding-from-requires c κs = search needs
 
 returns : tie.Need-returns
 returns c =
@@ -51,6 +56,7 @@ verdict-of-spec =
     tie.close
     (tie.spec
     lowest-of-requires
+    mul-finding-from
     element-copy-out-finding-from
     finding-from-requires
     returns

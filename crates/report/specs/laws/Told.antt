@@ -1,5 +1,5 @@
 -- What is kept tells the report, and the answer about one polygon.
-use Prim.Native.Nat.{ℕ, zero, suc, _+_, _*_, _-_, _≤_, _<_}
+use Prim.Native.Nat.{ℕ, zero, suc, _+_, _*_, _-_, _/_, _%_, _≤_, _<_}
 use native.Mathlib.Omega.{arith}
 use mathlib.Core.Path.{_≡_, refl, sym, ap, ap₂, _∙_, subst}
 use mathlib.Core.Bool.{Bool, true, false}
@@ -34,48 +34,49 @@ use Rattle.building.specs.Report.{findings, isFault, lowestFault, sixVolume, sh
 use Rattle.edges.specs.laws.Tallies.{tally-map}
 use Rattle.whole.specs.laws.Places.{tab-length, tab-at}
 use Rattle.building.specs.laws.Lists.{tab-ext, take-is-tab, map-tab}
-use Rattle.building.specs.laws.Findings.{number-same, number-few, Early, broken-early}
+use Rattle.building.specs.laws.Findings.{kept-number, kept-is, kept-fault, Early, broken-early}
+use Rattle.polygon.specs.held.Findings.{keptFinding, findingOf}
 use Rattle.building.specs.held.Holds.{Arrays, heldTables, heldBuilding, Loaded, Found, Summed, Broken, Kept}
 use Rattle.building.specs.held.Rings.{Ring}
 use Rattle.building.specs.laws.Rings.{ring-of, ring-below, ring-length}
 use Rattle.totals.specs.held.Scans.{lowest, sumUpTo, Summable}
 use Rattle.totals.specs.laws.Scans.{lowest-is-length, lowest-inside, above, sum-more}
 
--- ---- the lowest finding, as numbers
-lowest-some : (k : ℕ) (fs : List Finding) → lowest (map findingNumber fs) < length fs
-    → firstGiven (map (λ (f : ℕ × Finding). given (isFault (f .1)) (Faulty (f .0) (f .1))) (numberedFrom k fs)) ≡ some (Faulty (k + lowest (map findingNumber fs)) (getD fs (lowest (map findingNumber fs)) Sound))
-unfolding lowest firstGiven given numberedFrom isFault
+-- ---- the lowest finding, as it is kept
+lowest-some : (k : ℕ) (fs : List Finding) → lowest (map keptFinding fs) < length fs
+    → firstGiven (map (λ (f : ℕ × Finding). given (isFault (f .1)) (Faulty (f .0) (f .1))) (numberedFrom k fs)) ≡ some (Faulty (k + lowest (map keptFinding fs)) (getD fs (lowest (map keptFinding fs)) Sound))
+unfolding lowest firstGiven given numberedFrom
 lowest-some k [] h = absurd (omega arith)
-lowest-some k (f ∷ fs) h = go (ltb 0 (findingNumber f)) refl h (lowest-some (suc k) fs)
+lowest-some k (f ∷ fs) h = go (ltb 0 (keptFinding f)) refl h (lowest-some (suc k) fs)
   where
-    go : (b : Bool) → ltb 0 (findingNumber f) ≡ b → lowest (map findingNumber (f ∷ fs)) < length (f ∷ fs)
-        → (lowest (map findingNumber fs) < length fs → firstGiven (map (λ (f : ℕ × Finding). given (isFault (f .1)) (Faulty (f .0) (f .1))) (numberedFrom (suc k) fs)) ≡ some (Faulty (suc k + lowest (map findingNumber fs)) (getD fs (lowest (map findingNumber fs)) Sound)))
-        → firstGiven (map (λ (f : ℕ × Finding). given (isFault (f .1)) (Faulty (f .0) (f .1))) (numberedFrom k (f ∷ fs))) ≡ some (Faulty (k + lowest (map findingNumber (f ∷ fs))) (getD (f ∷ fs) (lowest (map findingNumber (f ∷ fs))) Sound))
+    go : (b : Bool) → ltb 0 (keptFinding f) ≡ b → lowest (map keptFinding (f ∷ fs)) < length (f ∷ fs)
+        → (lowest (map keptFinding fs) < length fs → firstGiven (map (λ (f : ℕ × Finding). given (isFault (f .1)) (Faulty (f .0) (f .1))) (numberedFrom (suc k) fs)) ≡ some (Faulty (suc k + lowest (map keptFinding fs)) (getD fs (lowest (map keptFinding fs)) Sound)))
+        → firstGiven (map (λ (f : ℕ × Finding). given (isFault (f .1)) (Faulty (f .0) (f .1))) (numberedFrom k (f ∷ fs))) ≡ some (Faulty (k + lowest (map keptFinding (f ∷ fs))) (getD (f ∷ fs) (lowest (map keptFinding (f ∷ fs))) Sound))
     go true e h ih =
-        let l : lowest (map findingNumber (f ∷ fs)) ≡ 0 = ap (λ (b : Bool). elim b [ true ↦ 0 | false ↦ suc (lowest (map findingNumber fs)) ]) e in
+        let l : lowest (map keptFinding (f ∷ fs)) ≡ 0 = ap (λ (b : Bool). elim b [ true ↦ 0 | false ↦ suc (lowest (map keptFinding fs)) ]) e in
         let z : k + 0 ≡ k = omega arith in
-        rw (l, e, z)
+        rw (l, sym (kept-fault f) ∙ e, z)
     go false e h ih =
-        let l : lowest (map findingNumber (f ∷ fs)) ≡ suc (lowest (map findingNumber fs)) = ap (λ (b : Bool). elim b [ true ↦ 0 | false ↦ suc (lowest (map findingNumber fs)) ]) e in
-        let z : suc k + lowest (map findingNumber fs) ≡ k + suc (lowest (map findingNumber fs)) = omega arith in
+        let l : lowest (map keptFinding (f ∷ fs)) ≡ suc (lowest (map keptFinding fs)) = ap (λ (b : Bool). elim b [ true ↦ 0 | false ↦ suc (lowest (map keptFinding fs)) ]) e in
+        let z : suc k + lowest (map keptFinding fs) ≡ k + suc (lowest (map keptFinding fs)) = omega arith in
         let r = ih (omega arith) in
-        rw (l, e) (rw z at r)
+        rw (l, sym (kept-fault f) ∙ e) (rw z at r)
 
-lowest-none : (k : ℕ) (fs : List Finding) → length fs ≤ lowest (map findingNumber fs) → firstGiven (map (λ (f : ℕ × Finding). given (isFault (f .1)) (Faulty (f .0) (f .1))) (numberedFrom k fs)) ≡ none
-unfolding lowest firstGiven given numberedFrom isFault
+lowest-none : (k : ℕ) (fs : List Finding) → length fs ≤ lowest (map keptFinding fs) → firstGiven (map (λ (f : ℕ × Finding). given (isFault (f .1)) (Faulty (f .0) (f .1))) (numberedFrom k fs)) ≡ none
+unfolding lowest firstGiven given numberedFrom
 lowest-none k [] h = refl
-lowest-none k (f ∷ fs) h = go (ltb 0 (findingNumber f)) refl h (lowest-none (suc k) fs)
+lowest-none k (f ∷ fs) h = go (ltb 0 (keptFinding f)) refl h (lowest-none (suc k) fs)
   where
-    go : (b : Bool) → ltb 0 (findingNumber f) ≡ b → length (f ∷ fs) ≤ lowest (map findingNumber (f ∷ fs))
-        → (length fs ≤ lowest (map findingNumber fs) → firstGiven (map (λ (f : ℕ × Finding). given (isFault (f .1)) (Faulty (f .0) (f .1))) (numberedFrom (suc k) fs)) ≡ none)
+    go : (b : Bool) → ltb 0 (keptFinding f) ≡ b → length (f ∷ fs) ≤ lowest (map keptFinding (f ∷ fs))
+        → (length fs ≤ lowest (map keptFinding fs) → firstGiven (map (λ (f : ℕ × Finding). given (isFault (f .1)) (Faulty (f .0) (f .1))) (numberedFrom (suc k) fs)) ≡ none)
         → firstGiven (map (λ (f : ℕ × Finding). given (isFault (f .1)) (Faulty (f .0) (f .1))) (numberedFrom k (f ∷ fs))) ≡ none
     go true e h ih =
-        let l : lowest (map findingNumber (f ∷ fs)) ≡ 0 = ap (λ (b : Bool). elim b [ true ↦ 0 | false ↦ suc (lowest (map findingNumber fs)) ]) e in
+        let l : lowest (map keptFinding (f ∷ fs)) ≡ 0 = ap (λ (b : Bool). elim b [ true ↦ 0 | false ↦ suc (lowest (map keptFinding fs)) ]) e in
         absurd (omega arith)
     go false e h ih =
-        let l : lowest (map findingNumber (f ∷ fs)) ≡ suc (lowest (map findingNumber fs)) = ap (λ (b : Bool). elim b [ true ↦ 0 | false ↦ suc (lowest (map findingNumber fs)) ]) e in
+        let l : lowest (map keptFinding (f ∷ fs)) ≡ suc (lowest (map keptFinding fs)) = ap (λ (b : Bool). elim b [ true ↦ 0 | false ↦ suc (lowest (map keptFinding fs)) ]) e in
         let r = ih (omega arith) in
-        rw e r
+        rw (sym (kept-fault f) ∙ e) r
 
 -- what stands before the lowest is 0
 pub lowest-before : (l : List ℕ) (p : ℕ) → p < lowest l → getD l p 0 ≡ 0
@@ -106,48 +107,47 @@ module _ {points : List ℤ} {entries starts : List ℕ} {s : Scalars} (ld : Loa
   part-held p h = part-take (pointsOf points) (s .points) (ringAt entries starts p) (ring-below ld p h)
 
   module _ {found : List ℕ} (fo : Found points entries starts found s) where
-    pub kept-finding : (p : ℕ) → p < s .polygons → getD found p 0 ≡ findingNumber (finding (told .tolerance) (told .points) (getD (told .polygons) p []))
+    pub kept-finding : (p : ℕ) → p < s .polygons → getD found p 0 ≡ keptFinding (finding (told .tolerance) (told .points) (getD (told .polygons) p []))
     unfolding heldTables rings
     kept-finding p h =
         fo .each p h
-        ∙ ap findingNumber (sym (finding-held p h) ∙ ap (finding (s .tolerance) (take (s .points) (pointsOf points))) (sym (tab-at (ringAt entries starts) (s .polygons) p [] h)))
+        ∙ ap keptFinding (sym (finding-held p h) ∙ ap (finding (s .tolerance) (take (s .points) (pointsOf points))) (sym (tab-at (ringAt entries starts) (s .polygons) p [] h)))
 
-    pub kept-findings : take (s .polygons) found ≡ map findingNumber (findings told)
+    pub kept-findings : take (s .polygons) found ≡ map keptFinding (findings told)
     unfolding findings heldTables rings
     kept-findings =
         take-is-tab found (s .polygons) 0 (omega (arith, fo .size, ld .begins .few))
-        ∙ tab-ext (λ p. getD found p 0) (λ p. findingNumber (finding (s .tolerance) (take (s .points) (pointsOf points)) (ringAt entries starts p))) (s .polygons) (λ p h. fo .each p h ∙ ap findingNumber (sym (finding-held p h)))
-        ∙ sym (map-tab findingNumber (λ p. finding (s .tolerance) (take (s .points) (pointsOf points)) (ringAt entries starts p)) (s .polygons))
-        ∙ ap (map findingNumber) (sym (map-tab (finding (s .tolerance) (take (s .points) (pointsOf points))) (ringAt entries starts) (s .polygons)))
+        ∙ tab-ext (λ p. getD found p 0) (λ p. keptFinding (finding (s .tolerance) (take (s .points) (pointsOf points)) (ringAt entries starts p))) (s .polygons) (λ p h. fo .each p h ∙ ap keptFinding (sym (finding-held p h)))
+        ∙ sym (map-tab keptFinding (λ p. finding (s .tolerance) (take (s .points) (pointsOf points)) (ringAt entries starts p)) (s .polygons))
+        ∙ ap (map keptFinding) (sym (map-tab (finding (s .tolerance) (take (s .points) (pointsOf points))) (ringAt entries starts) (s .polygons)))
 
     pub kept-faults : tally (ltb 0) (take (s .polygons) found) ≡ report told .faults
-    unfolding report isFault
-    kept-faults = ap (tally (ltb 0)) kept-findings ∙ tally-map (ltb 0) findingNumber (findings told)
+    unfolding report
+    kept-faults = ap (tally (ltb 0)) kept-findings ∙ tally-map (ltb 0) keptFinding (findings told) ∙ ap (λ (t : Finding → Bool). tally t (findings told)) (λ i f. kept-fault f i)
 
     findings-count : length (findings told) ≡ s .polygons
     unfolding findings heldTables rings
     findings-count = length-map (tab (ringAt entries starts) (s .polygons)) (finding (s .tolerance) (take (s .points) (pointsOf points))) ∙ tab-length (ringAt entries starts) (s .polygons)
 
     module _ {low : ℕ} (l : low ≡ lowest (take (s .polygons) found)) where
-      low-is : low ≡ lowest (map findingNumber (findings told))
+      low-is : low ≡ lowest (map keptFinding (findings told))
       low-is = l ∙ ap lowest kept-findings
 
       -- some polygon has a finding
-      pub told-faulty : low < s .polygons → (f : Finding) → findingNumber f ≡ getD found low 0 → Faulty low f ≡ verdict told
+      pub told-faulty : low < s .polygons → (f : Finding) → f ≡ findingOf (getD found low 0 % 16) (getD found low 0 / 16) → Faulty low f ≡ verdict told
       unfolding verdict lowestFault numbered first
       told-faulty h f e =
-          let k : lowest (map findingNumber (findings told)) < length (findings told) = omega (arith, low-is, findings-count) in
-          let z : 0 + lowest (map findingNumber (findings told)) ≡ low = omega (arith, low-is) in
-          let n : findingNumber (getD (findings told) low Sound) ≡ getD found low 0 = sym (number-at low h) in
-          let g : f ≡ getD (findings told) low Sound = number-same f (getD (findings told) low Sound) (e ∙ sym n) in
-          let q : some (Faulty (0 + lowest (map findingNumber (findings told))) (getD (findings told) (lowest (map findingNumber (findings told))) Sound)) ≡ some (Faulty low f) =
+          let k : lowest (map keptFinding (findings told)) < length (findings told) = omega (arith, low-is, findings-count) in
+          let z : 0 + lowest (map keptFinding (findings told)) ≡ low = omega (arith, low-is) in
+          let g : f ≡ getD (findings told) low Sound = e ∙ kept-is (getD (findings told) low Sound) (kept-at low h) in
+          let q : some (Faulty (0 + lowest (map keptFinding (findings told))) (getD (findings told) (lowest (map keptFinding (findings told))) Sound)) ≡ some (Faulty low f) =
           ap₂ (λ (i : ℕ) (x : Finding). some (Faulty i x)) z (ap (λ (i : ℕ). getD (findings told) i Sound) (sym low-is) ∙ sym g) in
           sym (ap (λ (o : Option Verdict). first Accepted (o ∷ shapeFault (shape (told .polygons)) ∷ given (leZ (sixVolume told) (pos 0)) Inward ∷ [])) (lowest-some 0 (findings told) k ∙ q))
         where
-          number-at : (p : ℕ) → p < s .polygons → getD found p 0 ≡ findingNumber (getD (findings told) p Sound)
-          number-at p h = sym (getD-take (s .polygons) found p 0 h) ∙ ap (λ (r : List ℕ). getD r p 0) kept-findings ∙ map-at (findings told) p (omega (arith, findings-count))
+          kept-at : (p : ℕ) → p < s .polygons → getD found p 0 ≡ keptFinding (getD (findings told) p Sound)
+          kept-at p h = sym (getD-take (s .polygons) found p 0 h) ∙ ap (λ (r : List ℕ). getD r p 0) kept-findings ∙ map-at (findings told) p (omega (arith, findings-count))
             where
-              map-at : (fs : List Finding) (p : ℕ) → p < length fs → getD (map findingNumber fs) p 0 ≡ findingNumber (getD fs p Sound)
+              map-at : (fs : List Finding) (p : ℕ) → p < length fs → getD (map keptFinding fs) p 0 ≡ keptFinding (getD fs p Sound)
               map-at [] p h = absurd (omega arith)
               map-at (x ∷ fs) zero h = refl
               map-at (x ∷ fs) (suc p) h = map-at fs p (omega arith)
@@ -156,7 +156,7 @@ module _ {points : List ℤ} {entries starts : List ℕ} {s : Scalars} (ld : Loa
       pub told-sound : s .polygons ≤ low → verdict told ≡ first Accepted (shapeFault (shape (told .polygons)) ∷ given (leZ (sixVolume told) (pos 0)) Inward ∷ [])
       unfolding verdict lowestFault numbered first
       told-sound h =
-          let k : length (findings told) ≤ lowest (map findingNumber (findings told)) = omega (arith, low-is, findings-count) in
+          let k : length (findings told) ≤ lowest (map keptFinding (findings told)) = omega (arith, low-is, findings-count) in
           ap (λ (o : Option Verdict). first Accepted (o ∷ shapeFault (shape (told .polygons)) ∷ given (leZ (sixVolume told) (pos 0)) Inward ∷ [])) (lowest-none 0 (findings told) k)
 
       -- and so none is broken
@@ -164,7 +164,8 @@ module _ {points : List ℤ} {entries starts : List ℕ} {s : Scalars} (ld : Loa
       told-whole h b =
           let e : getD found (b .polygon) 0 ≡ 0 = sym (getD-take (s .polygons) found (b .polygon) 0 (b .below)) ∙ lowest-before (take (s .polygons) found) (b .polygon) (omega (arith, b .below)) in
           let y : Early (findingNumber (finding (s .tolerance) (pointsOf points) (ringAt entries starts (b .polygon)))) = broken-early (s .tolerance) (pointsOf points) (ringAt entries starts (b .polygon)) (b .broken) in
-          omega (arith, y .least, fo .each (b .polygon) (b .below))
+          let z = kept-number (finding (s .tolerance) (pointsOf points) (ringAt entries starts (b .polygon))) (fo .each (b .polygon) (b .below)) in
+          omega (arith, y .least)
 
   module _ {parts : List ℤ} (su : Summed points entries starts parts s) where
     pub kept-part : (p : ℕ) → p < s .polygons → getD parts p (pos 0) ≡ part (told .points) (getD (told .polygons) p [])
@@ -223,9 +224,6 @@ unfolding first given shapeFault
 rows-accepted sh v e f = rw (e, f)
 
 module _ {points : List ℤ} {entries starts : List ℕ} {s : Scalars} (ld : Loaded points entries starts s) {found : List ℕ} {parts : List ℤ} {table turned : List ℕ} (kp : Kept points entries starts found parts table turned s) where
-  pub told-number : (p : ℕ) → p < s .polygons → getD found p 0 ≤ 6
-  told-number p h = omega (arith, kp .found .each p h, number-few (finding (s .tolerance) (pointsOf points) (ringAt entries starts p)))
-
   abbrev low : ℕ
   low = lowest (take (s .polygons) found)
 

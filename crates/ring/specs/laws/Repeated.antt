@@ -9,7 +9,7 @@ use lib.Dec.{eqb, ltb}
 use lib.ListN.{length, getD, take, length-take}
 use lib.Seq.{getD-take}
 use Rattle.whole.specs.Lists.{anyTwo, front, leastIndex, numbered, lists}
-use Rattle.whole.specs.held.Least.{LeastBelow}
+use Rattle.whole.specs.Least.{LeastBelow}
 use Rattle.whole.specs.laws.Front.{front-length, front-at}
 use Rattle.whole.specs.laws.Index.{any-index, any-holds, holds-any, HoldsAt, index-least, two-is, toEarlier}
 use Rattle.whole.specs.laws.Least.{below-as}
@@ -17,6 +17,7 @@ use Rattle.whole.specs.laws.Places.{numbered-at, numbered-length}
 use Rattle.whole.specs.laws.Same.{eqb-sym}
 use Rattle.whole.specs.laws.Stores.{cases}
 use Rattle.ring.specs.Entries.{isRepeated, stoodEarlier, repeatedAt}
+use Rattle.ring.specs.Position.{Stood}
 
 below-last : (i n : ℕ) → ltb i (n - 1) ≡ ltb (i + 1) n
 below-last i n = cases (ltb (i + 1) n) (λ e. lt-ltb i (n - 1) (omega (arith, ltb-true (i + 1) n e)) ∙ sym e) (λ e. le-ltb i (n - 1) (omega (arith, ltb-false (i + 1) n e)) ∙ sym e)
@@ -33,13 +34,6 @@ repeated-is ring =
     ∙ below-last (repeatedAt ring) (length ring)
 
 -- ---- in plain words
--- entry i, not the closing one, has a number that stood earlier
-pub record Stood (ring : List ℕ) (i : ℕ) : Type 0 where
-  pub inside : i + 1 < length ring
-  pub earlier : ℕ
-  pub before : earlier < i
-  pub same : getD ring earlier 0 ≡ getD ring i 0
-
 module _ (ring : List ℕ) where
   abbrev entries : List (ℕ × ℕ)
   entries = numbered (front ring)

@@ -22,9 +22,9 @@ length-reported : (check a b faulty : ℕ) (volume : ℤ) → length (reported c
 unfolding reported digits
 length-reported check a b faulty volume = omega arith
 
-length-told : (finding stamp : ℕ) (part : ℤ) → length (told finding stamp part) ≤ 32
+length-told : (finding position stamp : ℕ) (part : ℤ) → length (told finding position stamp part) ≤ 32
 unfolding told digits
-length-told finding stamp part = omega arith
+length-told finding position stamp part = omega arith
 
 length-answer : (f : Frame) (st : State) → length (answerTo f st) ≤ 32
 unfolding answerTo reportOf toldOf
@@ -34,7 +34,7 @@ length-answer (polygon ring) st = length-plain 0
 length-answer end-of-load st = length-reported _ _ _ _ _
 length-answer (move number n x y z) st = length-reported _ _ _ _ _
 length-answer (turn number n) st = length-reported _ _ _ _ _
-length-answer (question n) st = length-told _ _ _
+length-answer (question n) st = length-told _ _ _ _
 length-answer broken st = length-plain 0
 
 length-outcome : (r : Refusal) (st : State) (f : Frame) → length (outcome r st f .answer) ≤ 32

@@ -11,7 +11,7 @@ use Rattle.whole.specs.Lists.{given, first}
 use Rattle.frame.specs.Frame.{Frame, begin, point, polygon, end-of-load, move, turn, question, broken, decode}
 use Rattle.frame.specs.Encode.{encode}
 use Rattle.answer.specs.Answer.{told}
-use Rattle.polygon.specs.Ring.{finding, findingNumber}
+use Rattle.polygon.specs.Ring.{finding, findingNumber, findingPosition}
 use Rattle.volume.specs.Part.{part}
 use Rattle.building.specs.Tables.{Tables, Building, Polygon, loaded}
 use Rattle.building.specs.Corrections.{Correction, stampOf}
@@ -160,16 +160,17 @@ module _ (b : Building) (l : List ℕ) (n : ℕ) (d : decode l ≡ question n) (
   same-question =
       let t = b .tables in
       let ring = getD (t .polygons) n [] in
-      let f = findingNumber (finding (t .tolerance) (t .points) ring) in
+      let f = finding (t .tolerance) (t .points) ring in
       record {
-        found = f;
+        found = findingNumber f;
+        position = findingPosition f;
         stamp = getD (b .stamps) n 0;
         part-is = part (t .points) ring;
         here = question-answer b l n d a;
-        there = question-answer (loaded t) l n d fresh-accepts ∙ ap (λ (z : ℕ). told f z (part (t .points) ring)) (no-stamp (t .polygons) n);
+        there = question-answer (loaded t) l n d fresh-accepts ∙ ap (λ (z : ℕ). told (findingNumber f) (findingPosition f) z (part (t .points) ring)) (no-stamp (t .polygons) n);
       }
 
--- an accepted question's finding and part are those that a fresh load of the corrected tables answers
+-- an accepted question's finding, position and part are those that a fresh load of the corrected tables answers
 pub question-fresh : (before : List (List ℕ)) (end : List ℕ) (since : List (List ℕ)) → Span before end since → (l : List ℕ) (n : ℕ) → decode l ≡ question n
     → accepts (held before end since) l ≡ true
     → SameButStamp (step (held before end since) l .answer) (step (freshHeld (correctedBy before since)) l .answer)
@@ -185,7 +186,7 @@ question-known : (t : Tables) (h : List Correction) (l : List ℕ) (n : ℕ) →
 unfolding isAbsent tablesOf
 question-known t h l n d a = omega (arith, leb-false (length (C.told t h .tables .polygons)) n (question-passed (C.told t h) l n d a .known), polygons-told t h)
 
--- and its stamp is that of the span: finding, stamp and part, from the corrected tables and the corrections alone
+-- and its stamp is that of the span: finding, position, stamp and part, from the corrected tables and the corrections alone
 pub question-told : (before : List (List ℕ)) (end : List ℕ) (since : List (List ℕ)) → Span before end since → (l : List ℕ) (n : ℕ) → decode l ≡ question n
     → accepts (held before end since) l ≡ true
     → step (held before end since) l .answer ≡ toldIn (correctedBy before since) n (stampOf (correctionsOf before since) n (getD (loadedBy before .polygons) n []))

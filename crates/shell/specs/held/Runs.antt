@@ -4,7 +4,7 @@ use mathlib.Core.Path.{_≡_}
 use mathlib.Core.List.{List}
 use lib.ListN.{length, getD}
 use Rattle.edges.specs.Edges.{count}
-use Rattle.whole.specs.held.Least.{Least}
+use Rattle.whole.specs.Least.{Least}
 
 -- the run that begins at i ends before r
 pub record RunEnd (l : List ℕ) (i r : ℕ) : Type 0 where

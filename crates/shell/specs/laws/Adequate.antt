@@ -19,7 +19,7 @@ use Rattle.shell.specs.Shell.{polygonsOf, shareEdge, notReached, endsAt,
 use Rattle.edges.specs.held.Ascending.{In}
 use Rattle.shell.specs.laws.Closure.{any-in, in-any, keep-in, in-keep, unreached-cut, cut-unreached}
 use Rattle.edges.specs.laws.Tallies.{in-tally, tally-in, in-left, in-right, in-either}
-use Rattle.whole.specs.held.Least.{Least}
+use Rattle.whole.specs.Least.{Least}
 use Rattle.whole.specs.laws.Bools.{or-cases}
 
 -- o names the least number with the property P, and none where no number has it

@@ -16,6 +16,9 @@ abbrev μ-loop : tie.MeasureT-loop
 loop-holds : tie.Need-loop-holds Inv-loop μ-loop
 loop-holds c = counted-none (c .args .part .now)
 
+mul-if1 : tie.Need-mul-if1 Inv-loop μ-loop
+mul-if1 c = search needs
+
 shared-slice-read-if1 : tie.Need-shared-slice-read-if1 Inv-loop μ-loop
 shared-slice-read-if1 c = search needs
 
@@ -49,6 +52,7 @@ faults-in-spec =
     Inv-loop
     μ-loop
     loop-holds
+    mul-if1
     shared-slice-read-if1
     add-count
     add-i

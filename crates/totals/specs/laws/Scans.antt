@@ -9,7 +9,7 @@ use mathlib.Core.List.{List, [], _∷_, _++_}
 use borrow.Author.Tests.{lt-ltb}
 use lib.Dec.{ltb}
 use lib.ListN.{length, getD, take, drop}
-use lib.Seq.{drop-cons, drop-length, getD-take, length-take-le, take-suc, take-add}
+use lib.Seq.{drop-cons, drop-length, getD-take, length-take-le, take-suc}
 use lib.IntN.{ℤ, pos, _+ℤ_, +ℤ-idl, +ℤ-idr, +ℤ-assoc}
 use mir.Syntax.{w64}
 use mir.Val.{SFits, ofZ, toZ}
@@ -17,7 +17,6 @@ use mir.Facts.{toZ-ofZ}
 use Rattle.whole.specs.laws.Size.{small-fits}
 use Rattle.whole.specs.Lists.{tally, sumOf}
 use Rattle.whole.specs.laws.Search.{drop-next, drop-end}
-use Rattle.edges.specs.laws.Tallies.{tally-append}
 use Rattle.totals.specs.held.Scans.{lowest, sumUpTo, Summable}
 
 pub record Searched (l : List ℕ) (n i : ℕ) : Type 0 where
@@ -92,12 +91,6 @@ module _ (l : List ℕ) where
   counted-done i count s h =
       let f : tally (ltb 0) (drop i l) ≡ 0 = ap (tally (ltb 0)) (drop-end l i (omega (arith, s .passed))) in
       omega (arith, s .is)
-
-  -- two parts, one after the other
-  pub counted-parts : (a n : ℕ) → a ≤ n → tally (ltb 0) (take a l) + tally (ltb 0) (take (n - a) (drop a l)) ≡ tally (ltb 0) (take n l)
-  counted-parts a n h =
-      let e : a + (n - a) ≡ n = omega arith in
-      sym (tally-append (ltb 0) (take a l) (take (n - a) (drop a l))) ∙ ap (tally (ltb 0)) (sym (take-add a (n - a) l)) ∙ ap (λ (k : ℕ). tally (ltb 0) (take k l)) e
 
 -- ---- the lowest is the length exactly where there is none
 pub lowest-is-length : (l : List ℕ) → tally (ltb 0) l ≡ 0 → lowest l ≡ length l

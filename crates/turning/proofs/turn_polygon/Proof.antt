@@ -19,13 +19,13 @@ is-accepted-requires c κs = search needs
 
 turn-polygon-requires : tie.Need-turn-polygon-requires
 turn-polygon-requires c κs =
-    let g = c .before .before .before .before .before .before .before .before .before .args in
-    let v = c .before .before .before .before .before .before .before .before .before .pre .1 in
+    let g = c .before .before .before .before .before .before .before .before .before .before .args in
+    let v = c .before .before .before .before .before .before .before .before .before .before .pre .1 in
     let w : Arrays = arrays (g .points .now) (g .entries .now) (g .starts .now) (g .stamps .now) (g .findings .now) (g .parts .now) (g .table .now) (g .turned .now) in
-    let r = c .before .before .before .before .before .before .before .of-turn .result in
-    let t : isAccepted (c .before .before .before .before .before .before .before .of-turn .result) ≡ true = (sym (c .before .before .before .before .before .before .is-accepted .ensures) ∙ c .before .before .before .before .before .if1 .taken) in
-    let q : r ≡ refusal (service w (g .d)) (turn (g .number) (g .p)) = c .before .before .before .before .before .before .before .of-turn .ensures .is w tt v in
-    (valid-held w (g .d) v (turn-holds w (g .d) v (g .number) (g .p) r q t), turn-known w (g .d) v (g .number) (g .p) r q t)
+    let o = c .before .before .before .before .before .before .before .before .of-turn in
+    let t : isAccepted (o .result) ≡ true = sym (c .before .before .before .before .before .before .before .is-accepted .ensures) ∙ c .before .before .before .before .before .before .if1 .taken in
+    let q : o .result ≡ refusal (service w (g .d)) (turn (g .number) (g .p)) = o .ensures .is w tt v in
+    (valid-held w (g .d) v (turn-holds w (g .d) v (g .number) (g .p) (o .result) q t), turn-known w (g .d) v (g .number) (g .p) (o .result) q t)
 
 put-report-requires : tie.Need-put-report-requires
 put-report-requires c κs = search needs
@@ -35,10 +35,12 @@ same-length c = search needs
 
 returns : tie.Need-returns
 returns c =
-    let g = c .before .before .before .before .before .before .before .before .before .before .before .before .before .before .before .before .before .args in
-    let v = c .before .before .before .before .before .before .before .before .before .before .before .before .before .before .before .before .before .pre .1 in
+    let g = c .before .before .before .before .before .before .before .before .before .before .before .before .before .before .before .before .before .before .before .args in
+    let v = c .before .before .before .before .before .before .before .before .before .before .before .before .before .before .before .before .before .before .before .pre .1 in
     let w : Arrays = arrays (g .points .now) (g .entries .now) (g .starts .now) (g .stamps .now) (g .findings .now) (g .parts .now) (g .table .now) (g .turned .now) in
-    did-turn w (g .d) v (g .number) (g .p) (c .before .before .before .before .before .before .before .before .before .before .before .before .before .before .before .of-turn .result) (c .before .before .before .before .before .before .before .before .before .before .before .before .before .before .before .of-turn .ensures .is w tt v) (sym (c .before .before .before .before .before .before .before .before .before .before .before .before .before .before .is-accepted .ensures) ∙ c .before .before .before .before .before .before .before .before .before .before .before .before .before .if1 .taken) _ _ (c .before .before .before .before .before .before .before .turn-polygon .ensures .0) (g .room .now) _ _ (c .before .before .put-report .ensures)
+    let o = c .before .before .before .before .before .before .before .before .before .before .before .before .before .before .before .before .before .of-turn in
+    let t = sym (c .before .before .before .before .before .before .before .before .before .before .before .before .before .before .before .before .is-accepted .ensures) ∙ c .before .before .before .before .before .before .before .before .before .before .before .before .before .before .before .if1 .taken in
+    did-turn w (g .d) v (g .number) (g .p) (o .result) (o .ensures .is w tt v) t _ _ (c .before .before .before .before .before .before .before .before .turn-polygon .ensures .0) (g .room .now) _ _ (c .before .before .put-report .ensures)
 
 refuse-requires : tie.Need-refuse-requires
 refuse-requires c κs = search needs

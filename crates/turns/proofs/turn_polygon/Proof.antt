@@ -10,9 +10,10 @@ use Rattle.turns.proofs.turn_polygon.Tie as tie
 
 turn-ring-requires : tie.Need-turn-ring-requires
 turn-ring-requires c κs =
-    let s = c .before .before in
+    let s = c .before .before .before in
     let h = s .pre .0 in
-    (h .loaded .coords, (ring-of (h .loaded) (s .args .n) (s .pre .1), (h .kept .summed .size, h .kept .summed .each (s .args .n) (s .pre .1))))
+    let p = s .args .n in
+    (h .loaded .coords, (ring-of (h .loaded) p (s .pre .1), (h .loaded .tolerant, ((h .kept .found .size, h .kept .found .each p (s .pre .1)), (h .kept .summed .size, h .kept .summed .each p (s .pre .1))))))
 
 mul-stamps : tie.Need-mul-stamps
 mul-stamps c = search needs
@@ -24,27 +25,27 @@ element-copy-out-turned : tie.Need-element-copy-out-turned
 element-copy-out-turned c = search needs
 
 sub-turned : tie.Need-sub-turned
-sub-turned c = c .before .before .before .before .pre .0 .kept .flags (c .before .before .before .before .args .n)
+sub-turned c = c .before .before .before .before .before .pre .0 .kept .flags (c .before .before .before .before .before .args .n)
 
 element-write-turned : tie.Need-element-write-turned
 element-write-turned c = search needs
 
 shape-now-requires : tie.Need-shape-now-requires
 shape-now-requires c κs =
-    let s = c .before .before .before .before .before in
+    let s = c .before .before .before .before .before .before in
     let a = s .args in
     let k = s .pre .0 .kept in
     (turned-shown (arrays (a .points .now) (a .entries .now) (a .starts .now) (a .stamps .now) (a .findings .now) (a .parts .now) (a .table .now) (a .turned .now)) (a .s) (s .pre .0) (a .number) (a .n) (s .pre .1), k .table-size, length-set (a .turned .now) (a .n) _ ∙ k .turned-size)
 
 returns : tie.Need-returns
 returns c =
-    let s = c .before .before .before .before .before .before in
+    let s = c .before .before .before .before .before .before .before in
     let a = s .args in
     let e = c .before .before .before .turn-ring .ensures in
     let sh : Shown (a .table .now) (a .s .edges) (flipped (a .turned .now) (a .n)) (a .s .fixed) (c .shape-now .result) =
     record { known = turned-shown (arrays (a .points .now) (a .entries .now) (a .starts .now) (a .stamps .now) (a .findings .now) (a .parts .now) (a .table .now) (a .turned .now)) (a .s) (s .pre .0) (a .number) (a .n) (s .pre .1); is = c .shape-now .ensures } in (
-      did-turned (arrays (a .points .now) (a .entries .now) (a .starts .now) (a .stamps .now) (a .findings .now) (a .parts .now) (a .table .now) (a .turned .now)) (a .s) (s .pre .0) (a .number) (a .n) (s .pre .1) (e .0) refl (e .1) refl sh,
-      record { entries = e .0; stamps = refl; parts = e .1; turned = refl; scalars = refl; shown = sh },
+      did-turned (arrays (a .points .now) (a .entries .now) (a .starts .now) (a .stamps .now) (a .findings .now) (a .parts .now) (a .table .now) (a .turned .now)) (a .s) (s .pre .0) (a .number) (a .n) (s .pre .1) (e .0) refl (e .1 .0) (e .1 .1) refl sh,
+      record { entries = e .0; stamps = refl; findings = e .1 .0; parts = e .1 .1; turned = refl; scalars = refl; shown = sh },
     )
 
 pub turn-polygon-spec : {M : Type 1} → statement M

@@ -1,12 +1,13 @@
--- `turns::turn_ring` meets its contract: the part is asked of the ring as it stands turned.
+-- `turns::turn_ring` meets its contract: finding and part are asked of the ring as it stands turned.
+use Prim.Native.Nat.{ℕ}
 use mathlib.Core.Path.{ap, _∙_}
+use mathlib.Core.List.{List}
 use lib.ListN.{set}
-use lib.IntN.{ℤ}
-use mir.Syntax.{w64}
-use Rattle.whole.specs.laws.Size.{call-is}
+use Rattle.polygon.specs.Ring.{finding}
 use Rattle.volume.specs.Part.{part}
 use Rattle.space.specs.held.Points.{pointsOf}
-use Rattle.turns.specs.laws.Turned.{own-turned, own-known, own-before}
+use Rattle.polygon.specs.held.Findings.{keptFinding}
+use Rattle.turns.specs.laws.Turned.{own-turned, own-ring, own-back}
 use borrow.Author.Needs.{needs}
 use Rattle.turns.proofs.turn_ring.Statement.{statement}
 use Rattle.turns.proofs.turn_ring.Tie as tie
@@ -35,43 +36,35 @@ cast-to c = search needs
 reverse-in-requires : tie.Need-reverse-in-requires
 reverse-in-requires c κs = search needs
 
-mul-before : tie.Need-mul-before
-mul-before c = search needs
-
-element-copy-out-before : tie.Need-element-copy-out-before
-element-copy-out-before c = search needs
-
-mul-turned-part : tie.Need-mul-turned-part
-mul-turned-part c = search needs
-
-sub-turned-part : tie.Need-sub-turned-part
-sub-turned-part c = search needs
-
-part-turned-part-start : tie.Need-part-turned-part-start
-part-turned-part-start c = search needs
-
-part-turned-part-end : tie.Need-part-turned-part-end
-part-turned-part-end c = search needs
-
-turned-part-requires : tie.Need-turned-part-requires
-turned-part-requires c κs =
-    let s = c .before .before .before .before .before .before .before .before in
-    let e = c .before .before .before .before .reverse-in .ensures in
+renew-finding-requires : tie.Need-renew-finding-requires
+renew-finding-requires c κs =
+    let s = c .before .before .before .before .before .before in
+    let a = s .args in
+    let e = c .before .before .reverse-in .ensures in
     let r = s .pre .1 .0 in
-    (s .pre .0, (own-known r e, own-before r e (s .args .points .now) _ (record { sfits = c .before .before2 .given }) (s .pre .1 .1 .1)))
+    let f = s .pre .1 .1 .1 .0 in
+    (s .pre .0, (own-ring r e, (s .pre .1 .1 .0, (f .0, f .1 ∙ ap (λ (l : List ℕ). keptFinding (finding (a .tolerance) (pointsOf (a .points .now)) l)) (own-back r e)))))
 
-mul-after : tie.Need-mul-after
-mul-after c = search needs
-
-element-set-from-after : tie.Need-element-set-from-after
-element-set-from-after c = search needs
+renew-part-requires : tie.Need-renew-part-requires
+renew-part-requires c κs =
+    let s = c .before .before .before .before .before .before .before .before .before in
+    let e = c .before .before .before .before .before .reverse-in .ensures in
+    let r = s .pre .1 .0 in
+    let f = s .pre .1 .1 .1 .1 in
+    (s .pre .0, (own-ring r e, (f .0, f .1 ∙ ap (part (pointsOf (s .args .points .now))) (own-back r e))))
 
 returns : tie.Need-returns
 returns c =
-    let s = c .before .before .before .before .before .before .before .before .before in
-    let e = c .before .before .before .before .before .reverse-in .ensures in
+    let s = c .before .before .before .before .before .before .before .before .before .before in
+    let e = c .before .before .before .before .before .before .reverse-in .ensures in
     let a = s .args in
-    (e, ap (λ (z : ℤ). set (a .parts .now) (a .p) z) (call-is w64 (c .turned-part .ok) (c .turned-part .ensures ∙ ap (part (pointsOf (a .points .now))) (own-turned (s .pre .1 .0) e))))
+    let own = own-turned (s .pre .1 .0) e in (
+      e,
+      (
+        c .before .before .before .renew-finding .ensures ∙ ap (λ (l : List ℕ). set (a .findings .now) (a .p) (keptFinding (finding (a .tolerance) (pointsOf (a .points .now)) l))) own,
+        c .renew-part .ensures ∙ ap (λ (l : List ℕ). set (a .parts .now) (a .p) (part (pointsOf (a .points .now)) l)) own,
+      ),
+    )
 
 pub turn-ring-spec : {M : Type 1} → statement M
 turn-ring-spec =
@@ -85,13 +78,6 @@ turn-ring-spec =
     element-copy-out-to
     cast-to
     reverse-in-requires
-    mul-before
-    element-copy-out-before
-    mul-turned-part
-    sub-turned-part
-    part-turned-part-start
-    part-turned-part-end
-    turned-part-requires
-    mul-after
-    element-set-from-after
+    renew-finding-requires
+    renew-part-requires
     returns)

@@ -1,14 +1,14 @@
 -- A turn: what is kept after it is what the definitions give for the turned ring.
-use Prim.Native.Nat.{ℕ, zero, suc, _-_, _≤_, _<_}
+use Prim.Native.Nat.{ℕ, zero, suc, _+_, _*_, _-_, _%_, _≤_, _<_}
 use native.Mathlib.Omega.{arith}
-use mathlib.Core.Path.{_≡_, refl, sym, ap, _∙_, subst}
+use mathlib.Core.Path.{_≡_, refl, sym, ap, ap₂, _∙_, subst}
 use mathlib.Core.Bool.{true, false}
 use mathlib.Core.List.{List, reverse, reverse-reverse}
 use mathlib.Core.Logic.{inl, inr, ⊎-elim}
 use borrow.Author.Tests.{eqb-true, eqb-false}
 use lib.Dec.{eqb}
 use lib.ListN.{length, getD, set, length-set}
-use lib.Seq.{getD-set-same, getD-set-other, take-set-lt}
+use lib.Seq.{getD-set-same, getD-set-other, take-set-lt, length-sets}
 use lib.IntN.{ℤ, pos, negsuc, negℤ, _-ℤ_, +ℤ-idl}
 use mir.Syntax.{w64}
 use mir.Val.{SFits, ofZ, toZ}
@@ -17,10 +17,12 @@ use Rattle.whole.specs.Lists.{at}
 use Rattle.whole.specs.laws.Size.{small-more, small-fits}
 use Rattle.whole.specs.laws.Stores.{cases, all-set}
 use Rattle.ring.specs.Entries.{isUnclosed}
-use Rattle.polygon.specs.Ring.{finding, findingNumber}
+use Rattle.polygon.specs.Ring.{finding, findingNumber, findingPosition}
+use Rattle.polygon.specs.held.Position.{hasPosition}
 use Rattle.volume.specs.Part.{part}
 use Rattle.volume.specs.laws.Turn.{part-turned}
-use Rattle.polygon.specs.laws.TurnFinding.{finding-turned}
+use Rattle.polygon.specs.laws.TurnFinding.{number-turned, finding-turned}
+use Rattle.space.specs.Space.{Point}
 use Rattle.space.specs.held.Points.{pointsOf, Coords, Known}
 use Rattle.volume.specs.laws.PartSizes.{part-small}
 use Rattle.shell.specs.declared.Shape.{Shape}
@@ -30,11 +32,12 @@ use Rattle.shell.specs.laws.EdgedLaws.{edged-turned}
 use Rattle.building.specs.declared.Scalars.{Scalars}
 use Rattle.building.specs.Tables.{turned}
 use Rattle.building.specs.held.Holds.{isBroken, Arrays, arrays, heldTables, heldBuilding, Loaded, Found, Summed, Broken, Shown, Held, Did}
-use Rattle.building.specs.laws.Findings.{broken-turned}
+use Rattle.polygon.specs.held.Findings.{keptFinding, isPlaced}
+use Rattle.building.specs.laws.Findings.{broken-turned, kept-number, kept-placed}
 use Rattle.building.specs.held.Rings.{Ring}
 use Rattle.building.specs.laws.Rings.{ring-of}
 use Rattle.turns.specs.held.Rings.{turnedEntries}
-use Rattle.turns.specs.laws.Rings.{turned-own, turned-known, turned-other, turned-same, turned-rings, turned-loaded}
+use Rattle.turns.specs.laws.Rings.{turned-own, turned-known, turned-other, turned-rings, turned-loaded}
 
 -- ---- the part of a turned ring, from what it was
 neg-neg : (z : ℤ) → negℤ (negℤ z) ≡ z
@@ -68,8 +71,37 @@ module _ {entries starts : List ℕ} {p : ℕ} (r : Ring entries starts p) {entr
   pub own-known : Known (ringAt entries' starts p)
   own-known = subst Known (sym own-turned) (turned-known r)
 
-  pub own-before : (points : List ℤ) (z : ℤ) → SFits w64 z → z ≡ part (pointsOf points) (ringAt entries starts p) → toZ w64 (ofZ w64 z) ≡ part (pointsOf points) (reverse (ringAt entries' starts p))
-  own-before points z f k = toZ-ofZ f ∙ k ∙ ap (part (pointsOf points)) (sym (reverse-reverse (ringAt entries starts p)) ∙ ap reverse (sym own-turned))
+  pub own-back : ringAt entries starts p ≡ reverse (ringAt entries' starts p)
+  own-back = sym (reverse-reverse (ringAt entries starts p)) ∙ ap reverse (sym own-turned)
+
+  pub own-ring : Ring entries' starts p
+  own-ring =
+      record {
+        entries-size = ap length e ∙ length-sets entries (getD starts p 0) (reverse (ringAt entries starts p)) ∙ r .entries-size;
+        starts-size = r .starts-size;
+        few = r .few;
+        forward = r .forward;
+        inside = r .inside;
+        known = own-known;
+      }
+
+-- ---- the finding of a ring that has been turned, from what it was
+module _ (tolerance : ℕ) (points : List Point) (ring : List ℕ) {k : ℕ} (e : k ≡ keptFinding (finding tolerance points (reverse ring))) where
+  -- its number stands
+  pub turned-number : k % 16 ≡ findingNumber (finding tolerance points ring)
+  turned-number = kept-number (finding tolerance points (reverse ring)) e ∙ number-turned tolerance points ring
+
+  pub turned-placed : isPlaced (k % 16) ≡ hasPosition (finding tolerance points ring)
+  turned-placed = ap isPlaced turned-number ∙ kept-placed (finding tolerance points ring)
+
+  -- without a position it is what it was
+  pub turned-kept : isPlaced (k % 16) ≡ false → k ≡ keptFinding (finding tolerance points ring)
+  turned-kept h = e ∙ ap keptFinding (finding-turned tolerance points ring (sym turned-placed ∙ h))
+
+  -- and with one it is that number, met elsewhere
+  pub turned-found-at : {i : ℕ} → i ≡ findingPosition (finding tolerance points ring) → 16 * i + k % 16 ≡ keptFinding (finding tolerance points ring)
+  unfolding keptFinding
+  turned-found-at h = ap₂ (λ (p n : ℕ). 16 * p + n) h turned-number
 
 -- ---- the flag of a turned ring
 abbrev pub flipped : List ℕ → ℕ → List ℕ
@@ -80,21 +112,28 @@ flipped-flags turned p h q = all-set (λ (v : ℕ). v ≤ 1) 0 turned (suc q) p 
 
 -- ---- all that is kept
 module _ {points : List ℤ} {entries starts : List ℕ} {s : Scalars} (ld : Loaded points entries starts s) (p : ℕ) (h : p < s .polygons) where
-  turned-found : {findings : List ℕ} → Found points entries starts findings s → Found points (turnedEntries entries starts p) starts findings s
-  turned-found f =
+  -- what a ring tells, stored anew for the turned one, is told of every ring
+  turned-each : {A : Type 0} (f : List ℕ → A) (l : List A) (d : A) → length l ≡ 256 → ((q : ℕ) → q < s .polygons → getD l q d ≡ f (ringAt entries starts q))
+      → (q : ℕ) → q < s .polygons → getD (set l p (f (reverse (ringAt entries starts p)))) q d ≡ f (ringAt (turnedEntries entries starts p) starts q)
+  turned-each f l d size each q g =
+      let z = f (reverse (ringAt entries starts p)) in
+      cases (eqb q p)
+      (λ t. rw (eqb-true q p t) (getD-set-same l p z d (omega (arith, ld .begins .few)) ∙ ap f (sym (turned-own (ring-of ld p h)))))
+      (λ t. getD-set-other l p q z d (eqb-false q p t) ∙ each q g ∙ ap f (sym (turned-other ld p h q g (eqb-false q p t))))
+
+  turned-found : {findings : List ℕ} → Found points entries starts findings s
+      → Found points (turnedEntries entries starts p) starts (set findings p (keptFinding (finding (s .tolerance) (pointsOf points) (reverse (ringAt entries starts p))))) s
+  turned-found {findings} f =
       record {
-        size = f .size;
-        each = λ q g. f .each q g ∙ sym (turned-same ld p h (λ r. findingNumber (finding (s .tolerance) (pointsOf points) r)) (λ r. ap findingNumber (finding-turned (s .tolerance) (pointsOf points) r)) q g);
+        size = length-set findings p (keptFinding (finding (s .tolerance) (pointsOf points) (reverse (ringAt entries starts p)))) ∙ f .size;
+        each = turned-each (λ r. keptFinding (finding (s .tolerance) (pointsOf points) r)) findings 0 (f .size) (f .each);
       }
 
   turned-summed : {parts : List ℤ} → Summed points entries starts parts s → Summed points (turnedEntries entries starts p) starts (set parts p (part (pointsOf points) (reverse (ringAt entries starts p)))) s
   turned-summed {parts} f =
-      let z = part (pointsOf points) (reverse (ringAt entries starts p)) in
       record {
-        size = length-set parts p z ∙ f .size;
-        each = λ q g. cases (eqb q p)
-            (λ t. rw (eqb-true q p t) (getD-set-same parts p z (pos 0) (omega (arith, f .size, ld .begins .few)) ∙ ap (part (pointsOf points)) (sym (turned-own (ring-of ld p h)))))
-            (λ t. getD-set-other parts p q z (pos 0) (eqb-false q p t) ∙ f .each q g ∙ ap (part (pointsOf points)) (sym (turned-other ld p h q g (eqb-false q p t))));
+        size = length-set parts p (part (pointsOf points) (reverse (ringAt entries starts p))) ∙ f .size;
+        each = turned-each (part (pointsOf points)) parts (pos 0) (f .size) (f .each);
       }
 
   turned-broken : Broken entries starts (s .polygons) → Broken (turnedEntries entries starts p) starts (s .polygons)
@@ -118,23 +157,24 @@ module _ (a : Arrays) (s : Scalars) (hd : Held a s) (number p : ℕ) (h : p < s 
         edged = edged-turned (k .present) (a .table) (s .edges) (a .turned) (s .fixed) p (omega (arith, hd .kept .turned-size, hd .loaded .begins .few)) (k .edged);
       }
 
-  -- the turned ring, its part, its stamp and its flag make the building that a turn makes
-  pub did-turned : {entries' stamps' : List ℕ} {parts' : List ℤ} {turned' : List ℕ}
+  -- the turned ring, its finding, its part, its stamp and its flag make the building that a turn makes
+  pub did-turned : {entries' stamps' findings' : List ℕ} {parts' : List ℤ} {turned' : List ℕ}
       → entries' ≡ turnedEntries (a .entries) (a .starts) p
       → stamps' ≡ set (a .stamps) p number
+      → findings' ≡ set (a .findings) p (keptFinding (finding (s .tolerance) (pointsOf (a .points)) (reverse (ringAt (a .entries) (a .starts) p))))
       → parts' ≡ set (a .parts) p (part (pointsOf (a .points)) (reverse (ringAt (a .entries) (a .starts) p)))
       → turned' ≡ flipped (a .turned) p
       → {shape' : Shape} → Shown (a .table) (s .edges) turned' (s .fixed) shape'
-      → Did (turned number p (heldBuilding a s)) (arrays (a .points) entries' (a .starts) stamps' (a .findings) parts' (a .table) turned') (record { tolerance = s .tolerance; points = s .points; polygons = s .polygons; last = number; edges = s .edges; fixed = s .fixed; shape = shape' })
+      → Did (turned number p (heldBuilding a s)) (arrays (a .points) entries' (a .starts) stamps' findings' parts' (a .table) turned') (record { tolerance = s .tolerance; points = s .points; polygons = s .polygons; last = number; edges = s .edges; fixed = s .fixed; shape = shape' })
   unfolding heldBuilding heldTables turned
-  did-turned e₁ e₂ e₃ e₄ {shape'} sh =
+  did-turned e₁ e₂ e₅ e₃ e₄ {shape'} sh =
       let ld = hd .loaded in
       let kp = hd .kept in
       let few : p < 256 = omega (arith, ld .begins .few) in
       let lt = turned-loaded ld p h in
       let b : p < length (a .turned) = omega (arith, kp .turned-size) in
       let sh' : Shown (a .table) (s .edges) (flipped (a .turned) p) (s .fixed) shape' = rw e₄ at sh in
-      rw (e₁, e₂, e₃, e₄)
+      rw (e₁, e₂, e₅, e₃, e₄)
       (record {
         held = record {
           loaded = record { coords = lt .coords; first = lt .first; begins = lt .begins; entered = lt .entered; tolerant = lt .tolerant; short = lt .short };

@@ -8,10 +8,11 @@ use mathlib.Core.Bool.{Bool, true, false, _||_, true≢false}
 use mathlib.Core.List.{List, [], _∷_, _++_, append-assoc}
 use borrow.Author.Tests.{lt-ltb, ltb-true, ltb-false}
 use lib.Dec.{ltb, leb·suc-suc}
-use lib.ListN.{length, getD, take, drop, length-append}
-use lib.Seq.{take-append-seam}
+use lib.ListN.{length, getD, take, drop, length-append, length-take}
+use lib.Seq.{take-append-seam, getD-take}
 use Rattle.whole.specs.Lists.{any, anyTwo, leastIndex, numbered, numberedFrom}
-use Rattle.whole.specs.held.Least.{LeastBelow}
+use Rattle.whole.specs.Least.{LeastBelow}
+use Rattle.whole.specs.laws.Places.{numbered-at, numbered-length}
 use Rattle.whole.specs.laws.Search.{drop-next, drop-end}
 use Rattle.whole.specs.laws.Stores.{cases}
 use Rattle.whole.specs.laws.Reverse.{any-or, any-snoc, anyTwo-or}
@@ -143,3 +144,37 @@ module _ {A : Type 0} (r : A → A → Bool) where
   pub two-is : (l : List A) → anyTwo r l ≡ any (toEarlier l) (numbered l)
   unfolding numbered any
   two-is l = sym (two-from [] l ∙ ap (λ (b : Bool). b || anyTwo r l) (never l))
+
+  -- ---- two of a list that are so related, by their places
+  pub record Two (d : A) (l : List A) : Type 0 where
+    pub low : ℕ
+    pub high : ℕ
+    pub order : low < high
+    pub within : high < length l
+    pub related : r (getD l low d) (getD l high d) ≡ true
+
+  earlier-at : (d : A) (l : List A) (j : ℕ) → j < length l → toEarlier l (getD (numbered l) j (0, d)) ≡ any (λ y. r y (getD l j d)) (take j l)
+  unfolding toEarlier
+  earlier-at d l j h = ap (toEarlier l) (numbered-at l j (0, d) d h)
+
+  pub two-holds : (d : A) (l : List A) → anyTwo r l ≡ true → Two d l
+  two-holds d l e =
+      let p = any-holds (toEarlier l) (0, d) (numbered l) (sym (two-is l) ∙ e) in
+      let j = leastIndex (toEarlier l) (numbered l) in
+      let h : j < length l = omega (arith, p .0, numbered-length l) in
+      let q = any-holds (λ y. r y (getD l j d)) d (take j l) (sym (earlier-at d l j h) ∙ p .1) in
+      let i = leastIndex (λ y. r y (getD l j d)) (take j l) in
+      let b : i < j = omega (arith, q .0, length-take j l) in
+      record { low = i; high = j; order = b; within = h; related = ap (λ (x : A). r x (getD l j d)) (sym (getD-take j l i d b)) ∙ q .1 }
+
+  pub holds-two : (d : A) (l : List A) → Two d l → anyTwo r l ≡ true
+  holds-two d l t =
+      let j = t .high in
+      let i = t .low in
+      let n : i < length (take j l) = omega (arith, t .order, t .within, length-take j l) in
+      two-is l
+      ∙ holds-any (toEarlier l) (0, d) (numbered l) j (
+        omega (arith, t .within, numbered-length l),
+        earlier-at d l j (t .within)
+            ∙ holds-any (λ y. r y (getD l j d)) d (take j l) i (n, ap (λ (x : A). r x (getD l j d)) (getD-take j l i d (t .order)) ∙ t .related),
+      )

@@ -17,24 +17,24 @@ slice-aggregate-fill-2 c = search needs
 fill-requires-2 : tie.Need-fill-requires-2
 fill-requires-2 c κs = search needs
 
-slice-aggregate-crossings : tie.Need-slice-aggregate-crossings
-slice-aggregate-crossings c = search needs
+slice-aggregate-first-crossed : tie.Need-slice-aggregate-first-crossed
+slice-aggregate-first-crossed c = search needs
 
-slice-aggregate-crossings-2 : tie.Need-slice-aggregate-crossings-2
-slice-aggregate-crossings-2 c = search needs
+slice-aggregate-first-crossed-2 : tie.Need-slice-aggregate-first-crossed-2
+slice-aggregate-first-crossed-2 c = search needs
 
-sub-crossings : tie.Need-sub-crossings
-sub-crossings c = search needs
+sub-first-crossed : tie.Need-sub-first-crossed
+sub-first-crossed c = search needs
 
-crossings-requires : tie.Need-crossings-requires
-crossings-requires c κs =
+first-crossed-requires : tie.Need-first-crossed-requires
+first-crossed-requires c κs =
     let h = c .before .before .before .before .before .before .before .before .before .pre .1 .1 in
     spread-is (c .before .before .before .before .before .before .before .before .before .pre .0) (h .1) (h .0) (c .before .before .before .before .before .before .fill .ensures) (c .before .before .before .fill2 .ensures)
 
 returns : tie.Need-returns
 returns c =
     let h = c .before .before .before .before .before .before .before .before .before .before .pre .1 .1 in
-    c .crossings .ensures ∙ crossed-is (c .before .before .before .before .before .before .before .before .before .before .pre .0) (h .1) (h .0) (c .before .before .before .before .before .before .before .fill .ensures) (c .before .before .before .before .fill2 .ensures)
+    c .first-crossed .ensures ∙ crossed-is (c .before .before .before .before .before .before .before .before .before .before .pre .0) (h .1) (h .0) (c .before .before .before .before .before .before .before .fill .ensures) (c .before .before .before .before .fill2 .ensures)
 
 pub crossed-few-spec : {M : Type 1} → statement M
 crossed-few-spec =
@@ -44,8 +44,8 @@ crossed-few-spec =
     fill-requires
     slice-aggregate-fill-2
     fill-requires-2
-    slice-aggregate-crossings
-    slice-aggregate-crossings-2
-    sub-crossings
-    crossings-requires
+    slice-aggregate-first-crossed
+    slice-aggregate-first-crossed-2
+    sub-first-crossed
+    first-crossed-requires
     returns)

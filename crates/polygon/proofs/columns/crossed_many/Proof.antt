@@ -18,24 +18,24 @@ slice-aggregate-fill-2 c = search needs
 fill-requires-2 : tie.Need-fill-requires-2
 fill-requires-2 c κs = search needs
 
-slice-aggregate-crossings-many : tie.Need-slice-aggregate-crossings-many
-slice-aggregate-crossings-many c = search needs
+slice-aggregate-first-crossed : tie.Need-slice-aggregate-first-crossed
+slice-aggregate-first-crossed c = search needs
 
-slice-aggregate-crossings-many-2 : tie.Need-slice-aggregate-crossings-many-2
-slice-aggregate-crossings-many-2 c = search needs
+slice-aggregate-first-crossed-2 : tie.Need-slice-aggregate-first-crossed-2
+slice-aggregate-first-crossed-2 c = search needs
 
-sub-crossings-many : tie.Need-sub-crossings-many
-sub-crossings-many c = search needs
+sub-first-crossed : tie.Need-sub-first-crossed
+sub-first-crossed c = search needs
 
-crossings-many-requires : tie.Need-crossings-many-requires
-crossings-many-requires c κs =
+first-crossed-requires : tie.Need-first-crossed-requires
+first-crossed-requires c κs =
     let h = c .before .before .before .before .before .before .before .before .before .pre .1 .1 in
     (spread-is (c .before .before .before .before .before .before .before .before .before .pre .0) (h .1) (omega arith) (c .before .before .before .before .before .before .fill .ensures) (c .before .before .before .fill2 .ensures), (omega arith, omega arith))
 
 returns : tie.Need-returns
 returns c =
     let h = c .before .before .before .before .before .before .before .before .before .before .pre .1 .1 in
-    c .crossings-many .ensures ∙ crossed-is (c .before .before .before .before .before .before .before .before .before .before .pre .0) (h .1) (omega arith) (c .before .before .before .before .before .before .before .fill .ensures) (c .before .before .before .before .fill2 .ensures)
+    c .first-crossed .ensures ∙ crossed-is (c .before .before .before .before .before .before .before .before .before .before .pre .0) (h .1) (omega arith) (c .before .before .before .before .before .before .before .fill .ensures) (c .before .before .before .before .fill2 .ensures)
 
 pub crossed-many-spec : {M : Type 1} → statement M
 crossed-many-spec =
@@ -45,8 +45,8 @@ crossed-many-spec =
     fill-requires
     slice-aggregate-fill-2
     fill-requires-2
-    slice-aggregate-crossings-many
-    slice-aggregate-crossings-many-2
-    sub-crossings-many
-    crossings-many-requires
+    slice-aggregate-first-crossed
+    slice-aggregate-first-crossed-2
+    sub-first-crossed
+    first-crossed-requires
     returns)
