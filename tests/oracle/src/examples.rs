@@ -1,7 +1,8 @@
 //! The examples of document 01, those of its "Run" line, and those of document 02's requests.
 
 use crate::answer;
-use crate::report::{findings, report, Report};
+use crate::report::{report, Report};
+use crate::ring::{finding, position};
 use crate::tables::{Place, Tables};
 
 const TETRAHEDRON: &str = "010000
@@ -30,9 +31,15 @@ fn place(x: i128, y: i128, z: i128) -> Place {
     Place { x, y, z }
 }
 
-fn one_ring(tolerance: i128, corners: &[(i128, i128, i128)], entries: &[usize]) -> u8 {
+/// The finding of a ring and its position.
+fn at(tolerance: i128, corners: &[(i128, i128, i128)], entries: &[usize]) -> (u8, usize) {
     let points = corners.iter().map(|&(x, y, z)| place(x, y, z)).collect();
-    findings(&Tables { tolerance, points, polygons: vec![entries.to_vec()] })[0]
+    let tables = Tables { tolerance, points, polygons: vec![entries.to_vec()] };
+    (finding(&tables, 0), position(&tables, 0))
+}
+
+fn one_ring(tolerance: i128, corners: &[(i128, i128, i128)], entries: &[usize]) -> u8 {
+    at(tolerance, corners, entries).0
 }
 
 fn tetrahedron() -> Tables {
@@ -55,8 +62,8 @@ fn one_stream_in_full() {
         + "0000000000000000000000003B9ACA00
 00000000000000000000000077359400
 07
-0000000000000000000000000000
-0000000000050000000077359400
+00000000000000000000000000000000
+00000000000000050000000077359400
 000A000100020000FFFFFFFF88CA6C00
 ";
     let stream = TETRAHEDRON.to_string() + corrections;
@@ -99,6 +106,66 @@ fn crossing_rings() {
     let ring = |y| one_ring(0, &[(0, 0, 0), (1000, 1000, 0), (1000, 0, 0), (0, y, 0)], &[0, 1, 2, 3, 0]);
     assert_eq!(ring(1000), 4);
     assert_eq!(ring(2000), 5);
+}
+
+#[test]
+fn where_a_number_stood_earlier() {
+    let corners: Vec<(i128, i128, i128)> = (0..6).map(|k| (k, k * k, 0)).collect();
+    let again = |entries: &[usize]| at(0, &corners, entries);
+    assert_eq!(again(&[0, 1, 2, 1, 0]), (3, 3));
+    // The least of two; the number that stands again last stood first.
+    assert_eq!(again(&[0, 1, 1, 2, 2, 0]), (3, 2));
+    assert_eq!(again(&[0, 1, 2, 2, 1, 0, 0]), (3, 3));
+    // Right behind the first entry, and right before the closing one.
+    assert_eq!(again(&[0, 0, 1, 2, 0]), (3, 1));
+    assert_eq!(again(&[0, 1, 2, 3, 4, 5, 0, 0]), (3, 6));
+    // Turned, the ring 0 1 2 3 1 4 0 is 0 4 1 3 2 1 0.
+    assert_eq!(again(&[0, 1, 2, 3, 1, 4, 0]), (3, 4));
+    assert_eq!(again(&[0, 4, 1, 3, 2, 1, 0]), (3, 5));
+    // "else 0": 01 and 02 come first, whatever stands twice.
+    assert_eq!(again(&[0, 0, 0]), (1, 0));
+    assert_eq!(again(&[0, 1, 1, 2]), (2, 0));
+}
+
+#[test]
+fn where_edges_meet() {
+    // Document 01's bow tie: edges 0 and 2 cross. Begun one corner later they are edges 1 and 3, and turned edges 0 and 2 again.
+    let bow_tie = [(0, 0, 0), (1000, 1000, 0), (1000, 0, 0), (0, 2000, 0)];
+    assert_eq!(at(0, &bow_tie, &[0, 1, 2, 3, 0]), (5, 0));
+    assert_eq!(at(0, &bow_tie, &[3, 0, 1, 2, 3]), (5, 1));
+    assert_eq!(at(0, &bow_tie, &[3, 2, 1, 0, 3]), (5, 0));
+    // Edges 2 and 4 cross; turned, edge 4 has become edge 1.
+    let late = [(0, 0, 0), (1000, 0, 0), (1000, 500, 0), (0, 1000, 0), (1000, 1000, 0), (0, 500, 0)];
+    assert_eq!(at(0, &late, &[0, 1, 2, 3, 4, 5, 0]), (5, 2));
+    assert_eq!(at(0, &late, &[0, 5, 4, 3, 2, 1, 0]), (5, 1));
+    // Corner 1 stands on the last edge: edge 0 goes back over it. Of edges that are no neighbours, the last meets edge 1 alone.
+    let back = [(0, 0, 0), (200, 0, 0), (400, 300, 0), (400, 0, 0)];
+    assert_eq!(at(0, &back, &[0, 1, 2, 3, 0]), (5, 0));
+    // Edge 1 goes back over edge 0 and past its start, on which the last edge ends.
+    let past = [(0, 0, 0), (400, 0, 0), (-200, 0, 0), (-200, 300, 0)];
+    assert_eq!(at(0, &past, &[0, 1, 2, 3, 0]), (5, 0));
+    // "else 0": 04 comes first, though edges 0 and 2 cross.
+    assert_eq!(at(0, &[(0, 0, 0), (1000, 1000, 0), (1000, 0, 0), (0, 1000, 0)], &[0, 1, 2, 3, 0]), (4, 0));
+}
+
+#[test]
+fn where_a_point_is_off_the_plane() {
+    // The square with one corner lifted: entries 1 and 3 are as far off, entry 2 is not.
+    let lifted = [(0, 0, 0), (1000, 0, 0), (1000, 1000, 0), (0, 1000, 21)];
+    assert_eq!(at(10, &lifted, &[0, 1, 2, 3, 0]), (6, 1));
+    assert_eq!(at(10, &lifted, &[3, 0, 1, 2, 3]), (6, 1));
+    // A square with three corners more on its far side, the middle one lifted by h: N = (0, -20h, 2000000), so that N·p is 1980000h for
+    // the lifted one and -20000h for the others of that side. From the lifted one, all others are off.
+    let tip = |h| [(0, 0, 0), (1000, 0, 0), (1000, 1000, 0), (510, 1000, 0), (500, 1000, h), (490, 1000, 0), (0, 1000, 0)];
+    assert_eq!(at(10, &tip(10), &[0, 1, 2, 3, 4, 5, 6, 0]), (0, 0));
+    assert_eq!(at(10, &tip(11), &[0, 1, 2, 3, 4, 5, 6, 0]), (6, 4));
+    assert_eq!(at(10, &tip(11), &[0, 6, 5, 4, 3, 2, 1, 0]), (6, 3));
+    assert_eq!(at(10, &tip(1000), &[0, 1, 2, 3, 4, 5, 6, 0]), (6, 4));
+    assert_eq!(at(10, &tip(1011), &[0, 1, 2, 3, 4, 5, 6, 0]), (6, 2));
+    assert_eq!(at(10, &tip(11), &[4, 5, 6, 0, 1, 2, 3, 4]), (6, 1));
+    // 05 comes first, whatever is off the plane.
+    let late = [(0, 0, 0), (1000, 0, 0), (1000, 500, 0), (0, 1000, 0), (1000, 1000, 0), (0, 500, 900)];
+    assert_eq!(at(0, &late, &[0, 1, 2, 3, 4, 5, 0]), (5, 2));
 }
 
 #[test]
@@ -157,7 +224,7 @@ fn tolerance_at_the_bound() {
 fn ring_lengths_at_the_bound() {
     let polygon = |n: usize| format!("03{}\n", "0000".repeat(n));
     let stream = "010000\n02000000000000000000000000\n".to_string() + &polygon(128) + &polygon(129) + &polygon(0) + "04\n";
-    assert_eq!(ask(&stream), ["00", "00", "00", "01", "00", "00030000000000020000000000000000"]);
+    assert_eq!(ask(&stream), ["00", "00", "00", "01", "00", "00030000000100020000000000000000"]);
 }
 
 #[test]
@@ -169,8 +236,8 @@ fn the_last_correction_number() {
     assert_eq!(asked[10], format!("{report}3B9ACA00"));
     assert_eq!(asked[11], format!("{report}3B9ACA00"));
     assert_eq!(asked[12..15], ["07", "07", "07"]);
-    assert_eq!(asked[15], "0000FFFFFFFF0000000000000000");
-    assert_eq!(asked[16], "000000000000000000003B9ACA00");
+    assert_eq!(asked[15], "00000000FFFFFFFF0000000000000000");
+    assert_eq!(asked[16], "0000000000000000000000003B9ACA00");
     // "holds it with last correction number 0": a new load takes small numbers again.
     let again = ask(&(TETRAHEDRON.to_string() + corrections + TETRAHEDRON + "06000000010000\n"));
     assert_eq!(again[27], format!("{report}3B9ACA00"));
@@ -209,7 +276,7 @@ fn parts_of_open_rings() {
 070000
 ";
     let asked = ask(stream);
-    assert_eq!(asked[8], "000200000000FFFFFFFFFFFFFFD6");
-    assert_eq!(asked[9], "000100000000FFFFFFFFFFFFFFD6");
-    assert_eq!(asked[11], "0002000000010000000000000000");
+    assert_eq!(asked[8], "0002000000000000FFFFFFFFFFFFFFD6");
+    assert_eq!(asked[9], "0001000000000000FFFFFFFFFFFFFFD6");
+    assert_eq!(asked[11], "00020000000000010000000000000000");
 }

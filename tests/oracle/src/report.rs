@@ -1,6 +1,6 @@
 //! The report and the answer to a question.
 
-use crate::ring::{finding, part};
+use crate::ring::{finding, part, position};
 use crate::shape::failure;
 use crate::tables::Tables;
 
@@ -24,12 +24,12 @@ pub fn findings(tables: &Tables) -> Vec<u8> {
     (0..tables.polygons.len()).map(|polygon| finding(tables, polygon)).collect()
 }
 
-/// "If any polygon has a finding, the report names the lowest such polygon as a, with its check, b being 0. Only if none has one are
-/// these tried [...] Check 00 with 0, 0 is acceptance."
+/// "If any polygon has a finding, the report names the lowest such polygon as a, with its check". Document 02, (iii): "Reports show the
+/// position as element b for these checks, in place of 0." "Only if none has one are these tried [...] Check 00 with 0, 0 is acceptance."
 pub fn report(tables: &Tables) -> Report {
     let findings = findings(tables);
     let (check, a, b) = match findings.iter().position(|&finding| finding != 0) {
-        Some(polygon) => (findings[polygon], polygon, 0),
+        Some(polygon) => (findings[polygon], polygon, position(tables, polygon)),
         None => failure(tables).unwrap_or((0, 0, 0)),
     };
     let faulty = findings.iter().filter(|&&finding| finding != 0).count();
@@ -48,9 +48,11 @@ pub fn report_line(report: Report) -> String {
     format!("00{check:02X}{a:04X}{b:04X}{faulty:04X}{}", signed_16(six_volume))
 }
 
-/// "07 accepted: `00`, the polygon's finding 2, its stamp 8, its part of the six-volume 16."
+/// "07 accepted: `00`, the polygon's finding 2, its stamp 8, its part of the six-volume 16." Document 02, (iii): "The question's answer
+/// grows by 4 digits after the finding, to 32 digits."
 pub fn question_line(tables: &Tables, polygon: usize, stamp: i128) -> String {
     let finding = finding(tables, polygon);
+    let position = position(tables, polygon);
     let part = part(&tables.places(polygon));
-    format!("00{finding:02X}{stamp:08X}{}", signed_16(part))
+    format!("00{finding:02X}{position:04X}{stamp:08X}{}", signed_16(part))
 }

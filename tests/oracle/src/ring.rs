@@ -1,4 +1,5 @@
-//! Checks 01 to 06, on one polygon, and its part of the six-volume. Check 06 is that of document 02, request (ii).
+//! Checks 01 to 06, on one polygon, where in the ring they fail, and its part of the six-volume. Check 06 is that of document 02,
+//! request (ii), the position that of request (iii).
 
 use crate::tables::{Place, Tables, ORIGIN};
 
@@ -27,6 +28,18 @@ pub fn finding(tables: &Tables, polygon: usize) -> u8 {
     0
 }
 
+/// Document 02, (iii): "A polygon's finding shall carry a position: for 03 [...]; for 05 [...]; for 06 [...]; else 0."
+pub fn position(tables: &Tables, polygon: usize) -> usize {
+    let places = tables.places(polygon);
+    let found = match finding(tables, polygon) {
+        3 => repeated_entry(&tables.polygons[polygon]),
+        5 => meeting_edge(&places),
+        6 => failing_entry(&places, tables.tolerance),
+        _ => Some(0),
+    };
+    found.expect("where a check fails some entry or edge fails it")
+}
+
 /// "the ring has fewer than 4 entries"
 pub fn fails_01(ring: &[usize]) -> bool {
     ring.len() < 4
@@ -41,6 +54,12 @@ pub fn fails_02(ring: &[usize]) -> bool {
 pub fn fails_03(ring: &[usize]) -> bool {
     let Some((_, kept)) = ring.split_last() else { return false };
     (0..kept.len()).any(|i| (i + 1..kept.len()).any(|j| kept[i] == kept[j]))
+}
+
+/// "for 03 the least entry index whose number stood earlier, the closing entry aside"
+pub fn repeated_entry(ring: &[usize]) -> Option<usize> {
+    let (_, kept) = ring.split_last()?;
+    (0..kept.len()).find(|&i| kept[..i].contains(&kept[i]))
 }
 
 /// "Write the points relative to the ring's first point; the normal N is the sum, over consecutive entries, of the cross product of
@@ -103,29 +122,37 @@ pub fn share_more_than_end(a: Flat, b: Flat, c: Flat) -> bool {
     area(a, b, c) == 0 && same_way
 }
 
-/// "in the plane left by dropping the axis where N is largest in size (ties: x, then y), two edges that aren't neighbours share a
-/// point, or two neighbours share more than their common end". n entries give n-1 edges; the last edge and the first are neighbours.
-pub fn fails_05(places: &[Place]) -> bool {
+/// The ring's entries "in the plane left by dropping the axis where N is largest in size (ties: x, then y)".
+pub fn flattened(places: &[Place]) -> Vec<Flat> {
     let normal = normal(places);
-    let flat: Vec<Flat> = places.iter().map(|&place| drop_axis(normal, place)).collect();
+    places.iter().map(|&place| drop_axis(normal, place)).collect()
+}
+
+/// "two edges that aren't neighbours share a point, or two neighbours share more than their common end". n entries give n-1 edges, each
+/// with the index of its first entry; the last edge and the first are neighbours. The two may come in either order.
+pub fn forbidden_meeting(flat: &[Flat], i: usize, j: usize) -> bool {
     let edges = flat.len() - 1;
-    for i in 0..edges {
-        for j in i + 1..edges {
-            let follows = j == i + 1;
-            let comes_round = i == 0 && j == edges - 1;
-            let forbidden = if follows {
-                share_more_than_end(flat[i], flat[j], flat[j + 1])
-            } else if comes_round {
-                share_more_than_end(flat[j], flat[0], flat[1])
-            } else {
-                share_a_point(flat[i], flat[i + 1], flat[j], flat[j + 1])
-            };
-            if forbidden {
-                return true;
-            }
-        }
+    if j == (i + 1) % edges {
+        share_more_than_end(flat[i], flat[j], flat[j + 1])
+    } else if i == (j + 1) % edges {
+        share_more_than_end(flat[j], flat[i], flat[i + 1])
+    } else {
+        share_a_point(flat[i], flat[i + 1], flat[j], flat[j + 1])
     }
-    false
+}
+
+/// Check 05: two edges of the ring have a forbidden meeting.
+pub fn fails_05(places: &[Place]) -> bool {
+    let flat = flattened(places);
+    let edges = flat.len() - 1;
+    (0..edges).any(|i| (i + 1..edges).any(|j| forbidden_meeting(&flat, i, j)))
+}
+
+/// "for 05 the least edge index, counted from 0, that has a forbidden meeting": with any other edge, before or after it.
+pub fn meeting_edge(places: &[Place]) -> Option<usize> {
+    let flat = flattened(places);
+    let edges = flat.len() - 1;
+    (0..edges).find(|&i| (0..edges).any(|j| j != i && forbidden_meeting(&flat, i, j)))
 }
 
 /// "tolerance squared times the sum of the squares of N's components": below 2^109, since N's components are below 2^44.
@@ -133,12 +160,23 @@ pub fn square_of_reach(normal: Place, tolerance: i128) -> i128 {
     tolerance * tolerance * normal.dot(normal)
 }
 
-/// Document 02, (ii): for some point p "the square of N·(p - first) exceeds tolerance squared times the sum of the squares of N's
-/// components". N·(p - first) is below 2^63 in size, its square below 2^126.
+/// Document 02, (ii): "the square of N·(p - first) exceeds tolerance squared times the sum of the squares of N's components". N·(p -
+/// first) is below 2^63 in size, its square below 2^126.
+fn exceeds(normal: Place, way: Place, tolerance: i128) -> bool {
+    let along = normal.dot(way);
+    along * along > square_of_reach(normal, tolerance)
+}
+
+/// Check 06: it does "for some point p".
 pub fn fails_06(places: &[Place], tolerance: i128) -> bool {
     let normal = normal(places);
-    let square_of_reach = square_of_reach(normal, tolerance);
-    places.iter().map(|place| normal.dot(place.minus(places[0]))).any(|along| along * along > square_of_reach)
+    places.iter().any(|place| exceeds(normal, place.minus(places[0]), tolerance))
+}
+
+/// "for 06 the least failing entry index"
+pub fn failing_entry(places: &[Place], tolerance: i128) -> Option<usize> {
+    let normal = normal(places);
+    places.iter().position(|place| exceeds(normal, place.minus(places[0]), tolerance))
 }
 
 /// "the determinant of first, p, q, the three points taken as three rows of three numbers"

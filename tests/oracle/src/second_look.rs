@@ -1,10 +1,11 @@
 //! The geometry and the reachability of the oracle once more, by other means, on seeded random input.
 
 use crate::held::{corrected, Correction};
-use crate::ring::{fails_05, fails_06, finding, largest_size, normal, part, share_a_point, share_more_than_end, Flat};
+use crate::ring::{failing_entry, meeting_edge, repeated_entry};
+use crate::ring::{fails_03, fails_05, fails_06, finding, largest_size, normal, part, share_a_point, share_more_than_end, Flat};
 use crate::shape::{edges, fails_0b, fails_0c};
 use crate::tables::{Place, Tables, ORIGIN};
-use std::collections::HashSet;
+use std::collections::{BTreeMap, BTreeSet, HashSet};
 
 /// Small numbers from a linear congruence.
 struct Dice(u64);
@@ -140,26 +141,31 @@ fn segments_on_a_small_grid() {
     }
 }
 
-/// Check 05 by fractions, and without its clause on neighbours (which is implied for every ring that comes so far).
-fn fails_05_again(places: &[Place]) -> bool {
+/// The corners in the plane that check 05 looks at, its axis told in another way.
+fn flat_again(places: &[Place]) -> Vec<Flat> {
     let n = normal(places);
     let sizes = [n.x.abs(), n.y.abs(), n.z.abs()];
     let axis = (0..3).rev().max_by_key(|&axis| sizes[axis]).unwrap();
-    let flat: Vec<Flat> = places
-        .iter()
-        .map(|p| {
-            let p = [p.x, p.y, p.z];
-            let kept: Vec<i128> = (0..3).filter(|&each| each != axis).map(|each| p[each]).collect();
-            (kept[0], kept[1])
-        })
-        .collect();
+    let kept = |p: &Place| -> Vec<i128> { (0..3).filter(|&each| each != axis).map(|each| [p.x, p.y, p.z][each]).collect() };
+    places.iter().map(|p| (kept(p)[0], kept(p)[1])).collect()
+}
+
+/// Every edge that has a forbidden meeting, by fractions; with or without the clause on neighbours.
+fn meeting_edges_again(places: &[Place], neighbours: bool) -> BTreeSet<usize> {
+    let flat = flat_again(places);
     let count = flat.len() - 1;
-    (0..count).any(|i| {
-        (0..count).any(|j| {
+    let mut meeting = BTreeSet::new();
+    for i in 0..count {
+        for j in (0..count).filter(|&j| j != i) {
+            let shared = common(flat[i], flat[i + 1], flat[j], flat[j + 1]);
             let apart = (i + count - j) % count;
-            apart != 0 && apart != 1 && apart != count - 1 && common(flat[i], flat[i + 1], flat[j], flat[j + 1]) != Common::Nothing
-        })
-    })
+            let next = apart == 1 || apart == count - 1;
+            if (next && neighbours && shared == Common::More) || (!next && shared != Common::Nothing) {
+                meeting.extend([i, j]);
+            }
+        }
+    }
+    meeting
 }
 
 /// A closed ring of distinct points with a normal that is not zero, as check 05 is given them.
@@ -185,22 +191,49 @@ fn check_05_again() {
         let corners = 3 + dice.below(6) as usize;
         let Some(places) = ring_for_05(&mut dice, size, corners) else { continue };
         let fails = fails_05(&places);
-        assert_eq!(fails, fails_05_again(&places), "{places:?}");
+        // Without the clause on neighbours, which is implied for every ring that comes so far.
+        assert_eq!(fails, !meeting_edges_again(&places, false).is_empty(), "{places:?}");
         assert!(corners > 3 || !fails);
         seen[usize::from(fails)] += 1;
     }
     assert!(seen[0] > 10_000 && seen[1] > 10_000, "{seen:?}");
 }
 
-/// Check 06 by Pythagoras: the square of the way from the first point to p, less the square of its shadow on the plane, is the square
-/// of the distance to the plane; the shadow is as long as N × (p - first) divided by N's length. All of it times N's length squared.
-fn fails_06_again(places: &[Place], tolerance: i128) -> bool {
+#[test]
+fn the_edge_of_05_again() {
+    let mut dice = Dice(9);
+    let (mut later, mut by_neighbours) = (0, 0);
+    for round in 0..200_000 {
+        let size = [1, 1, 2, 4, 50, 100_000][round % 6];
+        let corners = 4 + dice.below(6) as usize;
+        let Some(mut places) = ring_for_05(&mut dice, size, corners) else { continue };
+        let meeting = meeting_edges_again(&places, true);
+        let least = meeting.first().copied();
+        assert_eq!(meeting_edge(&places), least, "{places:?}");
+        // Turned, edge i is the one with as many behind it as it had before it.
+        places.reverse();
+        assert_eq!(meeting_edge(&places), meeting.last().map(|edge| corners - 1 - edge), "{places:?}");
+        places.reverse();
+        // The clause on neighbours tells at edge 0 or not at all.
+        let by_others = meeting_edges_again(&places, false).first().copied();
+        assert!(least == by_others || least == Some(0), "{places:?}");
+        later += usize::from(least.is_some_and(|edge| edge > 0));
+        by_neighbours += usize::from(least != by_others);
+    }
+    assert!(later > 10_000 && by_neighbours > 500, "{later} {by_neighbours}");
+}
+
+/// The entries that fail 06, by Pythagoras: the square of the way from the first point to p, less the square of its shadow on the plane,
+/// is the square of the distance to the plane; the shadow is as long as N × (p - first) divided by N's length. All of it times N's
+/// length squared.
+fn failing_entries_again(places: &[Place], tolerance: i128) -> Vec<usize> {
     let n = normal(places);
-    places.iter().any(|place| {
+    let fails = |place: &Place| {
         let way = place.minus(places[0]);
         let across = n.cross(way);
         way.dot(way) * n.dot(n) - across.dot(across) > tolerance * tolerance * n.dot(n)
-    })
+    };
+    (0..places.len()).filter(|&entry| fails(&places[entry])).collect()
 }
 
 /// Check 06 before request (ii): the distance along the axis where N is largest.
@@ -212,21 +245,53 @@ fn failed_06_along_an_axis(places: &[Place], tolerance: i128) -> bool {
 #[test]
 fn check_06_again() {
     let mut dice = Dice(8);
-    let (mut seen, mut forgiven) = ([0, 0], 0);
+    let (mut seen, mut forgiven, mut later) = ([0, 0], 0, 0);
     for round in 0..200_000 {
         let size = [2, 4, 50, 2_000, 100_000][round % 5];
         let corners = 4 + dice.below(4) as usize;
-        let Some(places) = ring_for_05(&mut dice, size, corners) else { continue };
+        let Some(mut places) = ring_for_05(&mut dice, size, corners) else { continue };
         // A tolerance of about the ring's size, where both answers come.
         let tolerance = dice.below(size as u64).min(1_000) as i128;
         let fails = fails_06(&places, tolerance);
-        assert_eq!(fails, fails_06_again(&places, tolerance), "{places:?} at {tolerance}");
+        let failing = failing_entries_again(&places, tolerance);
+        assert_eq!(fails, !failing.is_empty(), "{places:?} at {tolerance}");
+        assert_eq!(failing_entry(&places, tolerance), failing.first().copied(), "{places:?} at {tolerance}");
+        later += usize::from(failing.first().is_some_and(|&entry| entry > 1));
         let failed = failed_06_along_an_axis(&places, tolerance);
         assert!(failed || !fails, "the true distance is never the longer one: {places:?} at {tolerance}");
         seen[usize::from(fails)] += 1;
         forgiven += usize::from(failed && !fails);
+        // Turned, entry i is the one with as many behind it as it had before it.
+        places.reverse();
+        assert_eq!(failing_entry(&places, tolerance), failing.last().map(|entry| corners - entry), "{places:?} at {tolerance}");
     }
-    assert!(seen[0] > 10_000 && seen[1] > 10_000 && forgiven > 5_000, "{seen:?} {forgiven}");
+    assert!(seen[0] > 10_000 && seen[1] > 10_000 && forgiven > 5_000 && later > 5_000, "{seen:?} {forgiven} {later}");
+}
+
+#[test]
+fn the_entry_of_03_again() {
+    let mut dice = Dice(10);
+    let mut seen = [0, 0];
+    for _ in 0..100_000 {
+        let mut ring: Vec<usize> = (0..3 + dice.below(9)).map(|_| dice.below(12) as usize).collect();
+        ring.push(ring[0]);
+        // Numbers with their entries in order: of each number that stands again, its second entry.
+        let second = |entries: &[usize]| -> Option<usize> {
+            let mut stands: BTreeMap<usize, Vec<usize>> = BTreeMap::new();
+            entries.iter().enumerate().for_each(|(entry, &number)| stands.entry(number).or_default().push(entry));
+            stands.values().filter_map(|entries| entries.get(1).copied()).min()
+        };
+        let last = ring.len() - 1;
+        let found = repeated_entry(&ring);
+        assert_eq!(found, second(&ring[..last]), "{ring:?}");
+        assert_eq!(found.is_some(), fails_03(&ring), "{ring:?}");
+        seen[usize::from(found.is_some())] += 1;
+        // Turned, the entry is the last whose number stands again behind it, entry 0 being the closing one then.
+        let again = (1..last).rev().find(|&entry| ring[entry + 1..].contains(&ring[entry]));
+        ring.reverse();
+        assert_eq!(repeated_entry(&ring), again.map(|entry| last - entry), "{ring:?}");
+    }
+    assert!(seen[0] > 10_000 && seen[1] > 10_000, "{seen:?}");
 }
 
 #[test]

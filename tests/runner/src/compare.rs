@@ -163,15 +163,15 @@ fn load_frames(tables: &Tables) -> String {
     frames + "04\n"
 }
 
-/// Demand 3: the report after an accepted correction is the one that a fresh load of the corrected tables gives, and so are finding
-/// and part of a polygon.
+/// Demand 3: the report after an accepted correction is the one that a fresh load of the corrected tables gives, and so are finding,
+/// position and part of a polygon.
 fn fresh_load(subject: Subject, line: usize, answer: &str, state: &State, dice: &mut Dice) -> Result<(), String> {
     let tables = state.tables();
     let polygon = dice.below(tables.polygons.len());
     let question = format!("07{polygon:04X}\n");
     let asked = step(&mut state.clone(), question.trim_end().as_bytes());
     // A fresh load has all stamps 0.
-    let asked = if asked.len() > 12 { format!("{}00000000{}", &asked[..4], &asked[12..]) } else { asked };
+    let asked = if asked.len() == 32 { format!("{}00000000{}", &asked[..8], &asked[16..]) } else { asked };
     let loads = 1 + tables.points.len() + tables.polygons.len();
     let answers = "00\n".repeat(loads) + answer + "\n" + &asked + "\n";
     let stream = load_frames(&tables) + &question;

@@ -2,9 +2,10 @@
 
 use crate::distance::{self, Twice};
 use crate::faults::{pinch, ring_fault, shape_fault};
+use crate::positions;
 use crate::prng::Dice;
 use crate::repeats;
-use crate::script::Script;
+use crate::script::{Asking, Script};
 use crate::solids::{self, closed, Solid, P};
 use oracle::ring::fails_06;
 use oracle::tables::Place;
@@ -25,6 +26,7 @@ pub const FAMILIES: &[Family] = &[
     Family { name: "few polygons", share: 2, write: few_polygons },
     Family { name: "rings on a small grid", share: 4, write: grid_rings },
     Family { name: "rings of repeated numbers", share: 1, write: repeats::stream },
+    Family { name: "rings with a position", share: 3, write: positions::stream },
     Family { name: "rings off their plane", share: 3, write: off_plane },
     Family { name: "rings at the true distance", share: 2, write: true_distance },
     Family { name: "large rings at the true distance", share: 1, write: large_at_true_distance },
@@ -400,26 +402,7 @@ fn put_ring(dice: &mut Dice, solid: &mut Solid, corners: &[P]) -> Option<usize> 
     Some(first)
 }
 
-/// Corrections of one ring, each with a question after it.
-struct Asking<'a> {
-    script: &'a mut Script,
-    number: u32,
-    polygon: usize,
-}
-
 impl Asking<'_> {
-    fn shift(&mut self, point: usize, to: P) {
-        self.number += 1;
-        self.script.shift(self.number, point, to);
-        self.script.question(self.polygon);
-    }
-
-    fn turn(&mut self) {
-        self.number += 1;
-        self.script.turn(self.number, self.polygon);
-        self.script.question(self.polygon);
-    }
-
     /// From one side of the tolerance to the other and back: corner by corner, with a turn on each side.
     fn across(&mut self, first: usize, here: &[P], there: &[P]) {
         self.turn();

@@ -1,5 +1,6 @@
 //! How often each thing was reached that the streams are meant to reach, by the oracle's account; what must be reached is listed.
 
+use crate::reach_positions;
 use crate::repeats;
 use oracle::frame::{decode, Frame};
 use oracle::held::{kind, refusals, refused_02_kind, step, State};
@@ -151,6 +152,7 @@ fn required() -> Vec<String> {
     names.extend((1..=3).map(|number| format!("whole stream -{number}")));
     names.extend(["-1 before -2", "-1 before -3", "-2 before -3", "all three"].map(|name| format!("whole stream {name}")));
     names.extend([BOUNDS, RINGS, repeats::NAMES, DISTANCES, HISTORIES].concat().iter().map(|name| name.to_string()));
+    names.extend(reach_positions::names());
     names
 }
 
@@ -162,6 +164,10 @@ impl Reach {
     fn size(&mut self, name: &'static str, value: i128) {
         let largest = self.largest.entry(name).or_insert(0);
         *largest = value.abs().max(*largest);
+    }
+
+    fn count_all(&mut self, names: Vec<String>) {
+        names.into_iter().for_each(|name| self.count(name));
     }
 
     fn count_if(&mut self, holds: bool, name: &str) {
@@ -202,8 +208,10 @@ impl Reach {
             self.frame(&before, line, &answer);
             if let Some(frame) = decode(line) {
                 self.past(&mut past, &before, &state, &frame, &answer);
-                if answer.len() == 32 {
-                    self.report(&state.tables(), Told::read(&answer));
+                match frame {
+                    Frame::Question { .. } if answer.len() == 32 => self.count_all(reach_positions::of_question(&answer)),
+                    _ if answer.len() == 32 => self.report(&state.tables(), Told::read(&answer)),
+                    _ => {}
                 }
                 if frame == Frame::End && answer.len() == 32 {
                     self.rings(&state.tables());
@@ -234,7 +242,7 @@ impl Reach {
         let verdict = if rows.is_empty() { "accepted".to_string() } else { format!("refused {:02X}", rows[0]) };
         self.count(format!("frame {:02X} {verdict} while {name}", kind(&frame)));
         self.bounds(state, &frame, &rows);
-        if let (Frame::Question { .. }, 28) = (&frame, answer.len()) {
+        if let (Frame::Question { .. }, 32) = (&frame, answer.len()) {
             self.count(format!("finding {} asked for", &answer[2..4]));
         }
     }
@@ -292,6 +300,7 @@ impl Reach {
             self.count(format!("check {check:02X} behind another"));
         }
         self.several(tables, given.check);
+        self.count_all(reach_positions::of_report(tables, given.check, given.a, given.b));
         self.count_if(given.check == 0x0D && given.six_volume == 0, "0D with six-volume 0");
         self.count_if(given.check == 0x0D && given.six_volume < 0, "0D with a negative six-volume");
     }
@@ -318,7 +327,7 @@ impl Reach {
         }
     }
 
-    /// What the rings of a fresh load show of checks 04 to 06.
+    /// What the rings of a fresh load show of checks 03 to 06, and of positions.
     fn rings(&mut self, tables: &Tables) {
         let findings = findings(tables);
         let mut before: &[usize] = &[];
@@ -327,6 +336,7 @@ impl Reach {
             repeats::reached(&tables.polygons[polygon], before).into_iter().for_each(|name| self.count(name));
             before = &tables.polygons[polygon];
             self.count_if(places.len() == 3 && ring::part(&places) != 0, "ring of 3 entries with a part");
+            self.count_all(reach_positions::of_ring(tables, polygon, finding));
             if finding == 0 || finding >= 5 {
                 self.ring(&places, tables.tolerance, finding);
             }
@@ -470,6 +480,7 @@ impl Reach {
                 let listing = new.polygons.iter().filter(|ring| ring.contains(point)).count();
                 self.count_if(listing >= 2, "a stamp from a move, 2 or more polygons");
                 self.by_a_millimetre(old, new, *point);
+                self.count_all(reach_positions::of_move(old, new, *point));
                 let faulty = (0..new.polygons.len()).any(|k| new.polygons[k].contains(point) && ring::finding(new, k) != 0);
                 self.count_if(faulty, "a stamp on a polygon with a finding");
                 past.left.push(old.points[*point]);
@@ -484,7 +495,9 @@ impl Reach {
                 self.count_if(open, "open ring turned");
                 let parts = (ring::part(&old.places(*polygon)), ring::part(&new.places(*polygon)));
                 self.count_if(open && parts.0 != -parts.1, "open ring turned, part not negated");
-                self.count_if(!past.turned.insert(*polygon), "turned and turned back");
+                let again = !past.turned.insert(*polygon);
+                self.count_if(again, "turned and turned back");
+                self.count_all(reach_positions::of_turn(old, new, *polygon, again));
                 self.turned_at_tolerance(old, *polygon);
             }
             _ => {}
@@ -610,6 +623,8 @@ struct Past {
 #[derive(Clone, Copy)]
 struct Told {
     check: u8,
+    a: usize,
+    b: usize,
     faulty: usize,
     six_volume: i128,
 }
@@ -617,7 +632,8 @@ struct Told {
 impl Told {
     fn read(line: &str) -> Told {
         let field = |from: usize, to: usize| u64::from_str_radix(&line[from..to], 16).expect("a report is hexadecimal");
-        Told { check: field(2, 4) as u8, faulty: field(12, 16) as usize, six_volume: i128::from(field(16, 32) as i64) }
+        let [a, b, faulty] = [(4, 8), (8, 12), (12, 16)].map(|(from, to)| field(from, to) as usize);
+        Told { check: field(2, 4) as u8, a, b, faulty, six_volume: i128::from(field(16, 32) as i64) }
     }
 }
 

@@ -95,3 +95,24 @@ impl Script {
         bytes
     }
 }
+
+/// Corrections of one ring, each with a question after it.
+pub struct Asking<'a> {
+    pub script: &'a mut Script,
+    pub number: u32,
+    pub polygon: usize,
+}
+
+impl Asking<'_> {
+    pub fn shift(&mut self, point: usize, to: P) {
+        self.number += 1;
+        self.script.shift(self.number, point, to);
+        self.script.question(self.polygon);
+    }
+
+    pub fn turn(&mut self) {
+        self.number += 1;
+        self.script.turn(self.number, self.polygon);
+        self.script.question(self.polygon);
+    }
+}
