@@ -28,8 +28,14 @@ Outcome ask(Entry entry, const std::string &stream, std::size_t room) {
 
 bool same(const Outcome &a, const Outcome &b) { return a.result == b.result && a.room == b.room; }
 
-std::size_t lines_of(const std::string &text) {
-    return static_cast<std::size_t>(std::count(text.begin(), text.end(), '\n')) + (!text.empty() && text.back() != '\n');
+std::vector<std::string> lines_in(const std::string &text) {
+    std::vector<std::string> lines;
+    for (std::size_t at = 0; at < text.size();) {
+        const std::size_t end = std::min(text.find('\n', at), text.size());
+        lines.push_back(text.substr(at, end - at));
+        at = end + 1;
+    }
+    return lines;
 }
 
 } // namespace
@@ -42,7 +48,7 @@ int main(int argc, char **argv) {
     for (std::uint64_t seed = first; seed < first + count; seed++) {
         const std::string stream = streams::any_stream(seed);
         streams::Random r(~seed);
-        const std::size_t enough = 33 * lines_of(stream);
+        const std::size_t enough = 33 * lines_in(stream).size();
         const std::size_t room = r.one_in(50) ? enough - std::min<std::size_t>(enough, 1) : enough + static_cast<std::size_t>(r.below(40));
         const Outcome plain = ask(framecheck_plain_answer, stream, room);
         bool agree = same(plain, ask(framecheck_tuned_answer, stream, room));
@@ -60,13 +66,10 @@ int main(int argc, char **argv) {
             seen["whole-stream refusal " + std::to_string(plain.result)]++;
             continue;
         }
-        const std::string text(plain.room.begin(), plain.room.begin() + plain.result);
-        for (std::size_t at = 0; at < text.size();) {
-            const std::size_t end = text.find('\n', at), size = end - at;
-            if (size == 2) seen[text[at + 1] == '0' ? "plain" : "refusal " + text.substr(at, 2)]++;
-            if (size == 32) seen["report " + text.substr(at + 2, 2)]++;
-            if (size == 28) seen["question, finding " + text.substr(at + 2, 2)]++;
-            at = end + 1;
+        const auto frames = lines_in(stream), answers = lines_in({plain.room.begin(), plain.room.begin() + plain.result});
+        for (std::size_t i = 0; i < answers.size(); i++) {
+            if (answers[i].size() == 2) seen[answers[i] == "00" ? "plain" : "refusal " + answers[i]]++;
+            else seen[(frames[i][1] == '7' ? "question, finding " : "report ") + answers[i].substr(2, 2)]++;
         }
     }
     for (const auto &[what, times] : seen) std::printf("%-28s %llu\n", what.c_str(), static_cast<unsigned long long>(times));

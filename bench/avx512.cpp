@@ -1,6 +1,6 @@
-// The third baseline: loads of sound buildings by hand-written AVX-512. All digits of the stream are turned into bytes first, 64 at
+// The third baseline: loads by hand-written AVX-512. All digits of the stream are turned into bytes first, 64 at
 // a time; rings are told apart by boxes, 16 edges at a time; edges are matched along chains by their smaller end. A stream that has
-// anything but a load without refusals, and a building that fails a check other than 0B or 0D, is answered by the plain baseline.
+// anything but a load without refusals, and a building that fails 01, 02, 07 to 0A or 0C, is answered by the plain baseline.
 #include "baselines.h"
 #include "distance.hpp"
 
@@ -30,8 +30,13 @@ struct Tables {
 };
 
 struct Report {
-    u32 check = 0, a = 0;
+    u32 check = 0, a = 0, b = 0, faulty = 0;
     i64 six_volume = 0;
+};
+
+// One of 03 to 06, or 0, and where: of 03 and 06 an entry, of 05 an edge, else 0.
+struct Finding {
+    u32 check, position;
 };
 
 // ---- one ring -----------------------------------------------------------------------------------------------------
@@ -67,16 +72,20 @@ struct Outline {
     }
 };
 
-bool crosses_few(const Outline &o) {
-    for (int i = 0; i < o.corners; i++) {
-        if (o.folds(i)) return true;
+// The least edge that has a forbidden meeting, or none. Neighbours are asked of edge 0 alone: where two others go back over each
+// other, an edge before them meets one of them, or the first of them the next but one.
+inline bool folds_at_0(const Outline &o) { return o.folds(0) || o.folds(o.corners - 1); }
+
+int meeting_of_few(const Outline &o) {
+    if (folds_at_0(o)) return 0;
+    for (int i = 0; i < o.corners; i++)
         for (int k = i + 2; k < o.corners - (i == 0); k++)
-            if (o.meets(i, k)) return true;
-    }
-    return false;
+            if (o.meets(i, k)) return i;
+    return none;
 }
 
-BY_AVX512 bool crosses_many(const Outline &o) {
+BY_AVX512 int meeting_of_many(const Outline &o) {
+    if (folds_at_0(o)) return 0;
     alignas(64) i32 low_u[144], high_u[144], low_v[144], high_v[144];
     for (int i = 0; i < o.corners; i++) {
         const int j = o.after(i);
@@ -86,7 +95,6 @@ BY_AVX512 bool crosses_many(const Outline &o) {
         high_v[i] = std::max(o.v[i], o.v[j]);
     }
     for (int i = 0; i < o.corners; i++) {
-        if (o.folds(i)) return true;
         const int end = o.corners - (i == 0);
         const __m512i lu = _mm512_set1_epi32(low_u[i]), hu = _mm512_set1_epi32(high_u[i]);
         const __m512i lv = _mm512_set1_epi32(low_v[i]), hv = _mm512_set1_epi32(high_v[i]);
@@ -97,35 +105,39 @@ BY_AVX512 bool crosses_many(const Outline &o) {
             near = _mm512_mask_cmple_epi32_mask(near, _mm512_loadu_si512(low_v + k), hv);
             near = _mm512_mask_cmpge_epi32_mask(near, _mm512_loadu_si512(high_v + k), lv);
             for (u32 left = near; left != 0; left &= left - 1)
-                if (o.meets(i, k + __builtin_ctz(left))) return true;
+                if (o.meets(i, k + __builtin_ctz(left))) return i;
         }
     }
-    return false;
+    return none;
 }
 
-// A triangle: whether it is sound, and its part.
-inline bool sound_triangle(const Tables &t, const u16 *ring, i64 &part) {
+// A triangle's finding and its part.
+inline Finding look_at_triangle(const Tables &t, const u16 *ring, i64 &part) {
     const int f = ring[0], a = ring[1], b = ring[2];
-    if (a == b || a == f || b == f) return false;
     const i64 fx = t.x[f], fy = t.y[f], fz = t.z[f];
     const i64 ax = t.x[a] - fx, ay = t.y[a] - fy, az = t.z[a] - fz, bx = t.x[b] - fx, by = t.y[b] - fy, bz = t.z[b] - fz;
     const i64 nx = ay * bz - az * by, ny = az * bx - ax * bz, nz = ax * by - ay * bx;
     part = nx * fx + ny * fy + nz * fz;
-    return (nx | ny | nz) != 0;
+    if ((nx | ny | nz) != 0) return {0, 0}; // then its numbers differ
+    if (a == f) return {3, 1};
+    return b == f || b == a ? Finding{3, 2} : Finding{4, 0};
 }
 
-// Whether a ring passes 01 to 06, and its part.
-BY_AVX512 bool sound(const Tables &t, int polygon, i64 &part) {
-    const u16 *ring = t.entry + t.start[polygon];
-    const int n = t.start[polygon + 1] - t.start[polygon], corners = n - 1;
-    if (n < 4 || ring[corners] != ring[0]) return false;
-    if (corners == 3) return sound_triangle(t, ring, part);
+// The least entry whose number stood earlier, or none.
+inline int repeated_entry(const u16 *ring, int corners) {
     u64 met[8] = {0};
     for (int i = 0; i < corners; i++) {
         const u64 bit = u64{1} << (ring[i] & 63);
-        if ((met[ring[i] >> 6] & bit) != 0) return false;
+        if ((met[ring[i] >> 6] & bit) != 0) return i;
         met[ring[i] >> 6] |= bit;
     }
+    return none;
+}
+
+// The finding of a ring of four corners or more that passes 01 and 02, and its part.
+BY_AVX512 Finding look(const Tables &t, int polygon, i64 &part) {
+    const u16 *ring = t.entry + t.start[polygon];
+    const int corners = t.start[polygon + 1] - t.start[polygon] - 1;
     const i32 fx = t.x[ring[0]], fy = t.y[ring[0]], fz = t.z[ring[0]];
     alignas(64) i32 way[3][144];
     for (int i = 0; i < corners; i++) {
@@ -140,16 +152,21 @@ BY_AVX512 bool sound(const Tables &t, int polygon, i64 &part) {
         ny += az * bx - ax * bz;
         nz += ax * by - ay * bx;
     }
-    if ((nx | ny | nz) == 0) return false;
     part = nx * fx + ny * fy + nz * fz;
+    if (const int entry = repeated_entry(ring, corners); entry != none) return {3, static_cast<u32>(entry)};
+    if ((nx | ny | nz) == 0) return {4, 0};
     const i64 ax = std::llabs(nx), ay = std::llabs(ny), az = std::llabs(nz);
     const int drop = ax >= ay && ax >= az ? 0 : ay >= az ? 1 : 2;
-    i64 off = 0;
-    for (int i = 1; i < corners; i++)
-        off = std::max<i64>(off, std::llabs(nx * way[0][i] + ny * way[1][i] + nz * way[2][i]));
-    if (distance::is_uneven(off, ax, ay, az, t.tolerance)) return false;
     const Outline outline{way[drop == 0 ? 1 : 0], way[drop == 2 ? 1 : 2], corners};
-    return corners <= 6 ? !crosses_few(outline) : !crosses_many(outline);
+    const int edge = corners <= 6 ? meeting_of_few(outline) : meeting_of_many(outline);
+    if (edge != none) return {5, static_cast<u32>(edge)};
+    const auto off = [&](int i) { return std::llabs(nx * way[0][i] + ny * way[1][i] + nz * way[2][i]); };
+    i64 most = 0;
+    for (int i = 1; i < corners; i++) most = std::max<i64>(most, off(i));
+    if (!distance::is_uneven(most, ax, ay, az, t.tolerance)) return {0, 0};
+    u32 entry = 1; // the farthest fails, so that one is found
+    while (!distance::is_uneven(off(static_cast<int>(entry)), ax, ay, az, t.tolerance)) entry++;
+    return {6, entry};
 }
 
 // ---- all rings ----------------------------------------------------------------------------------------------------
@@ -231,10 +248,14 @@ bool all_linked(const Tables &t, const Steps &s) {
 // The report, where it is one that this program gives.
 bool check(const Tables &t, Report &r) {
     for (int p = 0; p < t.polygons; p++) {
+        const u16 *first = t.entry + t.start[p], *end = t.entry + t.start[p + 1];
+        if (end - first < 4 || end[-1] != first[0]) return false;
         i64 part = 0;
-        if (!sound(t, p, part)) return false;
+        const Finding found = end - first == 4 ? look_at_triangle(t, first, part) : look(t, p, part);
         r.six_volume += part;
+        if (found.check != 0 && r.faulty++ == 0) r.check = found.check, r.a = static_cast<u32>(p), r.b = found.position;
     }
+    if (r.faulty != 0) return true;
     Steps steps;
     if (t.polygons < 4 || !pair_edges(t, steps)) return false;
     const int apart = first_apart(t, steps);
@@ -356,7 +377,8 @@ extern "C" std::int64_t framecheck_avx512_answer(const std::uint8_t *stream, std
         if (!taken) return framecheck_plain_answer(stream, stream_len, room, room_len);
         if (p[0] == 4) {
             load.running = false;
-            out = put(put(put(put(out, r.check, 4), r.a, 4), 0, 8), static_cast<u64>(r.six_volume), 16);
+            out = put(put(put(put(out, r.check, 4), r.a, 4), r.b, 4), r.faulty, 4);
+            out = put(out, static_cast<u64>(r.six_volume), 16);
         } else {
             out = put(out, 0, 2);
         }

@@ -15,7 +15,7 @@ std::int64_t framecheck_plain_answer(const std::uint8_t *stream, std::size_t str
 std::int64_t framecheck_tuned_answer(const std::uint8_t *stream, std::size_t stream_len, std::uint8_t *room,
                                      std::size_t room_len);
 
-// Loads of sound buildings by hand-written AVX-512, all else by the plain one; only on a processor that has it, one call at a time.
+// Loads by hand-written AVX-512, all else by the plain one; only on a processor that has it, one call at a time.
 std::int64_t framecheck_avx512_answer(const std::uint8_t *stream, std::size_t stream_len, std::uint8_t *room,
                                       std::size_t room_len);
 }

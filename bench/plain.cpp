@@ -1,5 +1,6 @@
-// The plain baseline: document 01 as a good engineer would first write it in C++. Every report looks at the whole building
-// again; nothing is kept from one report to the next but the tables, the stamps and the last correction number.
+// The plain baseline: document 01, with the requests of document 02 that stand, as a good engineer would first write it in C++.
+// Every report looks at the whole building again; nothing is kept from one report to the next but the tables, the stamps and
+// the last correction number.
 #include "baselines.h"
 
 #include <algorithm>
@@ -123,20 +124,21 @@ bool fold_back(Flat a, Flat b, Flat c) {
     return turn(b, a, c) == 0 && (a.u - b.u) * (c.u - b.u) + (a.v - b.v) * (c.v - b.v) > 0;
 }
 
-bool crosses_itself(const std::vector<Flat> &corner) {
+// The least edge that has a forbidden meeting. What it meets comes after it, so that the first pair found tells it.
+std::optional<std::size_t> first_meeting(const std::vector<Flat> &corner) {
     const std::size_t edges = corner.size() - 1;
     for (std::size_t i = 0; i < edges; i++) {
         for (std::size_t j = i + 1; j < edges; j++) {
             if (j == i + 1) {
-                if (fold_back(corner[i], corner[j], corner[j + 1])) return true;
+                if (fold_back(corner[i], corner[j], corner[j + 1])) return i;
             } else if (i == 0 && j == edges - 1) {
-                if (fold_back(corner[j], corner[0], corner[1])) return true;
+                if (fold_back(corner[j], corner[0], corner[1])) return i;
             } else if (meet(corner[i], corner[i + 1], corner[j], corner[j + 1])) {
-                return true;
+                return i;
             }
         }
     }
-    return false;
+    return std::nullopt;
 }
 
 // Two machine words as one number, which ISO C++ has no name for. Squares here are below 2^126.
@@ -168,6 +170,11 @@ struct Verdict {
     std::size_t a = 0, b = 0;
 };
 
+struct Finding {
+    int check = 0;
+    std::size_t position = 0; // of 03 and 06 an entry, of 05 an edge, else 0
+};
+
 class Building {
   public:
     std::int64_t tolerance = 0;
@@ -175,12 +182,12 @@ class Building {
     std::vector<Polygon> polygons;
     std::size_t entries = 0;
 
-    int finding(const Ring &ring) const {
-        if (ring.size() < 4) return 1;
-        if (ring.back() != ring.front()) return 2;
+    Finding finding(const Ring &ring) const {
+        if (ring.size() < 4) return {1, 0};
+        if (ring.back() != ring.front()) return {2, 0};
         std::vector<bool> seen(points.size(), false);
         for (std::size_t i = 0; i + 1 < ring.size(); i++) {
-            if (seen[ring[i]]) return 3;
+            if (seen[ring[i]]) return {3, i};
             seen[ring[i]] = true;
         }
         const Point first = points[ring[0]];
@@ -189,14 +196,14 @@ class Building {
             const Point c = cross(points[ring[i]] - first, points[ring[i + 1]] - first);
             normal = {normal.x + c.x, normal.y + c.y, normal.z + c.z};
         }
-        if (normal == Point{0, 0, 0}) return 4;
+        if (normal == Point{0, 0, 0}) return {4, 0};
         std::vector<Flat> corner;
         corner.reserve(ring.size());
         for (auto entry : ring) corner.push_back(flatten(points[entry], normal));
-        if (crosses_itself(corner)) return 5;
-        for (auto entry : ring)
-            if (is_uneven(dot(normal, points[entry] - first), normal, tolerance)) return 6;
-        return 0;
+        if (const auto edge = first_meeting(corner)) return {5, *edge};
+        for (std::size_t i = 0; i < ring.size(); i++)
+            if (is_uneven(dot(normal, points[ring[i]] - first), normal, tolerance)) return {6, i};
+        return {};
     }
 
     std::int64_t part(const Ring &ring) const {
@@ -211,8 +218,8 @@ class Building {
         std::int64_t six_volume = 0;
         Verdict verdict;
         for (std::size_t p = 0; p < polygons.size(); p++) {
-            const int found = finding(polygons[p].ring);
-            if (found != 0 && faulty++ == 0) verdict = {found, p, 0};
+            const Finding found = finding(polygons[p].ring);
+            if (found.check != 0 && faulty++ == 0) verdict = {found.check, p, found.position};
             six_volume += part(polygons[p].ring);
         }
         if (faulty == 0) verdict = shape();
@@ -222,7 +229,8 @@ class Building {
     }
 
     std::string question(const Polygon &polygon) const {
-        return "00" + hex(static_cast<std::uint64_t>(finding(polygon.ring)), 2) + hex(polygon.stamp, 8) +
+        const Finding found = finding(polygon.ring);
+        return "00" + hex(static_cast<std::uint64_t>(found.check), 2) + hex(found.position, 4) + hex(polygon.stamp, 8) +
                hex(static_cast<std::uint64_t>(part(polygon.ring)), 16);
     }
 

@@ -197,6 +197,29 @@ inline Model eight_rings() {
     return m;
 }
 
+// Eight flat stars of 126 corners that fail a check where it is found last: 03 at the entry before the closing one, 05 at the last edge
+// but two, 06 at the last corner.
+inline Model late_rings(std::string name, int check) {
+    Model m{std::move(name), 10, {}, {}};
+    const double step = 2.0 * 3.14159265358979323846 / 126;
+    for (int k = 0; k < 8; k++) {
+        auto outline = star(126, 60000, 90000);
+        // In from the last corner but one, to the side from which its edge came: the last edge crosses that one.
+        const double u = 75000 * std::cos(123.3 * step), v = 75000 * std::sin(123.3 * step);
+        if (check == 5) outline.back() = {static_cast<int>(std::lround(u)), static_cast<int>(std::lround(v))};
+        Ring ring;
+        for (const auto &[x, y] : outline) {
+            ring.push_back(k % 4 * 126 + static_cast<int>(ring.size()));
+            if (k < 4) m.points.push_back({x, y, 3000 * k});
+        }
+        if (check == 6 && k < 4) m.points.back()[2] += 100;
+        if (check == 3) ring.back() = ring[ring.size() - 2];
+        ring.push_back(ring[0]);
+        m.rings.push_back(ring);
+    }
+    return m;
+}
+
 // As many rings of n entries as fit, over points on one line, each from another point on: they pass 01 to 03 and fail 04, where a sound
 // ring that is convex would never come to 03.
 inline Model thin_rings(std::string name, int n) {
@@ -281,6 +304,16 @@ inline std::string with_corrections(const Model &m) {
         for (int q = 0; q < 2; q++) text += question(asked++ % polygons);
         text += turn(++number, k / 2 * 5 % polygons);
         for (int q = 0; q < 2; q++) text += question(asked++ % polygons);
+    }
+    return text;
+}
+
+// The load, then 100 turns, each with a question on the polygon.
+inline std::string with_turns(const Model &m) {
+    std::string text = load(m);
+    for (int k = 0; k < 100; k++) {
+        const int which = k % static_cast<int>(m.rings.size());
+        text += turn(static_cast<std::uint32_t>(k + 1), which) + question(which);
     }
     return text;
 }
