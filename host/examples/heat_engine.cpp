@@ -36,9 +36,8 @@ void print(const framecheck::Report &report) {
     if (report.accepted()) {
         std::printf("accepted, %.6f m3 (six-volume %lld)\n", report.cubic_metres(), static_cast<long long>(report.six_volume));
     } else {
-        const auto why = framecheck::sentence(report.check);
-        std::printf("volume not used, check %02X, a = %u, b = %u: %.*s\n", static_cast<unsigned>(report.check), report.a, report.b,
-                    static_cast<int>(why.size()), why.data());
+        std::printf("volume not used, check %02X, a = %u, b = %u: %s\n", static_cast<unsigned>(report.check), report.a, report.b,
+                    framecheck::sentence(report).c_str());
     }
 }
 
@@ -77,8 +76,9 @@ int day(const char *load, const char *fast, const char *slow) {
     print(*building.report());
     const auto answers = building.polygon_answers();
     for (std::size_t p = 0; p < answers.size(); p++)
-        std::printf("polygon %zu: finding %02X, last touched by no. %u, part %lld\n", p, static_cast<unsigned>(answers[p].finding),
-                    answers[p].stamp, static_cast<long long>(answers[p].part));
+        std::printf("polygon %zu: finding %02X, position %u, last touched by no. %u, part %lld\n", p,
+                    static_cast<unsigned>(answers[p].finding), answers[p].position.index, answers[p].stamp,
+                    static_cast<long long>(answers[p].part));
     std::printf("%zu of %zu frames refused\n", building.refused().size(), building.corrections().size());
     return 0;
 }

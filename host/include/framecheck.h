@@ -28,6 +28,16 @@ enum {
     FRAMECHECK_LONGEST_FRAME = 514     /* digits: a polygon of 128 entries */
 };
 
+/* The answer to a line, each field in upper-case hexadecimal:
+ *   00                                    begin, point or polygon accepted
+ *   00, check 2, a 4, b 4, faulty 4, six-volume 16   end of load, move or turn accepted: the report
+ *   00, finding 2, position 4, stamp 8, part 16      question accepted
+ *   01 to 07                              refused
+ * Report and question's answer are both 32 digits: the line's kind tells them apart. A finding's position is, for 03, the least
+ * entry of the ring whose number stood earlier, the closing entry aside; for 05 the least edge that meets another where it must not,
+ * an edge having the index of its first entry; for 06 the least entry that is too far from the plane; else 0. All count from 0. In a
+ * report a is the lowest polygon with a finding, and b its position. */
+
 /* The checks; 01 to 06 are also a polygon's findings. 06 goes by true distance, exactly: it fails where, for some point p of the ring,
  * (N.(p - first))^2 > tolerance^2 * (Nx^2 + Ny^2 + Nz^2), N being the ring's normal. */
 enum {
@@ -82,6 +92,16 @@ static inline const char *framecheck_check_sentence(int check) {
     case FRAMECHECK_NOT_LINKED: return "The polygons at point a are not all linked across edges that end at it.";
     case FRAMECHECK_NO_VOLUME: return "The six-volume is zero or negative.";
     default: return "Not a check of document 01.";
+    }
+}
+
+/* What a report says of the polygon a and the position b where its check has one, or a null pointer. */
+static inline const char *framecheck_position_sentence(int check) {
+    switch (check) {
+    case FRAMECHECK_NUMBER_TWICE: return "The number of entry b of polygon a stood earlier in its ring.";
+    case FRAMECHECK_EDGES_MEET: return "Edge b of polygon a meets another edge where it must not.";
+    case FRAMECHECK_NOT_PLANAR: return "Entry b of polygon a lies further from the polygon's plane than the tolerance.";
+    default: return NULL;
     }
 }
 

@@ -126,6 +126,24 @@ enum class StreamRefusal : std::int8_t {
 // Document 01's number of any of the four.
 template <class E> constexpr int number_of(E e) noexcept { return static_cast<int>(e); }
 
+// Where in a ring a finding is met: 03 and 06 at an entry, 05 at an edge, which has the index of its first entry, the others nowhere.
+struct Position {
+    enum class Of : std::uint8_t { nothing, entry, edge } of = Of::nothing;
+    std::uint16_t index = 0; // counted from 0; 0 where there is nothing
+};
+
+inline bool operator==(const Position &p, const Position &q) noexcept { return p.of == q.of && p.index == q.index; }
+
+// What the position of a check or a finding is one of.
+template <class E> constexpr Position::Of positioned(E e) noexcept {
+    switch (number_of(e)) {
+    case FRAMECHECK_NUMBER_TWICE: return Position::Of::entry;
+    case FRAMECHECK_EDGES_MEET: return Position::Of::edge;
+    case FRAMECHECK_NOT_PLANAR: return Position::Of::entry;
+    default: return Position::Of::nothing;
+    }
+}
+
 inline std::string_view sentence(Check c) noexcept { return framecheck_check_sentence(number_of(c)); }
 inline std::string_view sentence(Finding f) noexcept { return framecheck_check_sentence(number_of(f)); }
 inline std::string_view sentence(Refusal r) noexcept { return framecheck_refusal_sentence(number_of(r)); }
@@ -140,16 +158,21 @@ struct Plain {}; // begin, point or polygon accepted
 
 struct Report { // end of load, move or turn accepted
     Check check = Check::accepted;
-    std::uint16_t a = 0, b = 0;     // the elements that the check names
+    std::uint16_t a = 0, b = 0;     // the elements that the check names; of 03, 05 and 06 the polygon and its position
     std::uint16_t faulty = 0;       // polygons with a finding of their own
     std::int64_t six_volume = 0;    // exact, whether the building is accepted or not
 
     bool accepted() const noexcept { return check == Check::accepted; }
+    Position position() const noexcept {
+        const auto of = positioned(check);
+        return {of, of == Position::Of::nothing ? std::uint16_t{0} : b};
+    }
     double cubic_metres() const noexcept { return framecheck::cubic_metres(six_volume); }
 };
 
 struct PolygonAnswer { // question accepted
     Finding finding = Finding::none;
+    Position position;              // where in its ring
     std::uint32_t stamp = 0;        // number of the last correction that touched the polygon
     std::int64_t part = 0;          // its part of the six-volume
 };
@@ -165,9 +188,29 @@ inline bool operator==(const Report &p, const Report &q) noexcept {
     return p.check == q.check && p.a == q.a && p.b == q.b && p.faulty == q.faulty && p.six_volume == q.six_volume;
 }
 inline bool operator==(const PolygonAnswer &p, const PolygonAnswer &q) noexcept {
-    return p.finding == q.finding && p.stamp == q.stamp && p.part == q.part;
+    return p.finding == q.finding && p.position == q.position && p.stamp == q.stamp && p.part == q.part;
 }
 inline bool operator==(const Refused &p, const Refused &q) noexcept { return p.refusal == q.refusal; }
+
+// The sentence of a polygon's finding with its position: "Edge 17 of polygon 3 meets another edge where it must not."
+inline std::string sentence(Finding f, std::size_t polygon, Position position) {
+    const char *with_letters = framecheck_position_sentence(number_of(f));
+    if (with_letters == nullptr) return std::string(sentence(f));
+    std::string text;
+    for (std::string_view rest = with_letters; !rest.empty();) {
+        const std::string_view word = rest.substr(0, rest.find(' '));
+        rest.remove_prefix(std::min(word.size() + 1, rest.size()));
+        if (!text.empty()) text += ' ';
+        text += word == "a" ? std::to_string(polygon) : word == "b" ? std::to_string(position.index) : std::string(word);
+    }
+    return text;
+}
+
+// The sentence of a report: that of the finding that it names, with its position, or that of its check.
+inline std::string sentence(const Report &r) {
+    if (positioned(r.check) == Position::Of::nothing) return std::string(sentence(r.check));
+    return sentence(static_cast<Finding>(r.check), r.a, r.position());
+}
 
 // Thrown where answer bytes are not of document 01's form: the archive linked is not this checker.
 class Unreadable : public std::runtime_error {
@@ -213,21 +256,36 @@ inline std::vector<std::string_view> lines(std::string_view text) {
 
 } // namespace detail
 
-// One answer line, its line feed left off. The three kinds of accepted answer differ in length.
-inline Answer read_answer(std::string_view line) {
-    using detail::number;
-    if (!detail::digits(line) || line.size() < 2) throw Unreadable(std::string(line));
-    const int head = static_cast<int>(number(line.substr(0, 2)));
-    if (line.size() == 2 && head == 0) return Plain{};
-    if (line.size() == 2 && head <= number_of(Refusal::late)) return Refused{static_cast<Refusal>(head)};
-    const int what = line.size() >= 4 ? static_cast<int>(number(line.substr(2, 2))) : 0;
-    if (line.size() == 32 && head == 0 && what <= number_of(Check::no_volume))
-        return Report{static_cast<Check>(what), static_cast<std::uint16_t>(number(line.substr(4, 4))),
-                      static_cast<std::uint16_t>(number(line.substr(8, 4))),
-                      static_cast<std::uint16_t>(number(line.substr(12, 4))), detail::signed_number(line.substr(16))};
-    if (line.size() == 28 && head == 0 && what <= number_of(Finding::not_planar))
-        return PolygonAnswer{static_cast<Finding>(what), static_cast<std::uint32_t>(number(line.substr(4, 8))),
-                             detail::signed_number(line.substr(12))};
+namespace detail {
+
+inline Report read_report(std::string_view line) noexcept {
+    const auto four = [&](std::size_t at) { return static_cast<std::uint16_t>(number(line.substr(at, 4))); };
+    return {static_cast<Check>(number(line.substr(2, 2))), four(4), four(8), four(12), signed_number(line.substr(16))};
+}
+
+inline PolygonAnswer read_polygon_answer(std::string_view line) {
+    const auto finding = static_cast<Finding>(number(line.substr(2, 2)));
+    const Position position{positioned(finding), static_cast<std::uint16_t>(number(line.substr(4, 4)))};
+    if (position.of == Position::Of::nothing && position.index != 0) throw Unreadable(std::string(line));
+    return {finding, position, static_cast<std::uint32_t>(number(line.substr(8, 8))), signed_number(line.substr(16))};
+}
+
+} // namespace detail
+
+// The answer to a line, line feeds left off both. The line's kind tells what an accepted one says: a report and a question's answer
+// are of one length.
+inline Answer read_answer(std::string_view frame, std::string_view line) {
+    const std::string_view kind = frame.substr(0, 2);
+    if (detail::digits(line) && line.size() == 2) {
+        const int head = static_cast<int>(detail::number(line));
+        if (head == 0 && (kind == "01" || kind == "02" || kind == "03")) return Plain{};
+        if (head != 0 && head <= number_of(Refusal::late)) return Refused{static_cast<Refusal>(head)};
+    }
+    if (detail::digits(line) && line.size() == 32 && line.substr(0, 2) == "00") {
+        const int what = static_cast<int>(detail::number(line.substr(2, 2)));
+        if ((kind == "04" || kind == "05" || kind == "06") && what <= number_of(Check::no_volume)) return detail::read_report(line);
+        if (kind == "07" && what <= number_of(Finding::not_planar)) return detail::read_polygon_answer(line);
+    }
     throw Unreadable(std::string(line));
 }
 
@@ -244,9 +302,10 @@ inline Answers answer_all(Bytes stream) {
     if (got < 0) return {static_cast<StreamRefusal>(got), {}};
     if (static_cast<std::uint64_t>(got) > room.size()) throw Unreadable("more answer than room");
     room.resize(static_cast<std::size_t>(got));
+    const auto frames = detail::lines({reinterpret_cast<const char *>(stream.data()), stream.size()}), given = detail::lines(room);
+    if (given.size() != frames.size()) throw Unreadable("an answer count other than the line count");
     Answers all;
-    for (auto line : detail::lines(room)) all.lines.push_back(read_answer(line));
-    if (all.lines.size() != stream.lines()) throw Unreadable("an answer count other than the line count");
+    for (std::size_t i = 0; i < given.size(); i++) all.lines.push_back(read_answer(frames[i], given[i]));
     return all;
 }
 

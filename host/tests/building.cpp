@@ -48,8 +48,8 @@ void a_day() {
     HOLD(b.corrections().size() == 7 && b.refused().size() == 5 && b.waiting() == 0);
     HOLD(b.refused()[0].late() && b.refused()[0].number == 4u);
 
-    HOLD(b.question(3) == Reply(PolygonAnswer{Finding::none, 6, -2000000000}));
-    HOLD(b.question(1) == Reply(PolygonAnswer{Finding::none, 5, 0}));
+    HOLD(b.question(3) == Reply(PolygonAnswer{Finding::none, {}, 6, -2000000000}));
+    HOLD(b.question(1) == Reply(PolygonAnswer{Finding::none, {}, 5, 0}));
     HOLD(b.question(4) == Reply(Refused{Refusal::unknown_number}));
     const auto all = b.polygon_answers();
     HOLD(all.size() == 4 && all[0].stamp == 0 && all[1].stamp == 5 && all[2].stamp == 5 && all[3].stamp == 6);
@@ -174,8 +174,8 @@ void folding_keeps_stamps() {
     b.load(streams::load({"", 0, {{0, 0, 0}, {1, 0, 5}, {1, 1, 7}, {5, 9, 1}}, {{1, 2, 3, 0}}}));
     HOLD(std::get<PolygonAnswer>(b.question(0)).part == -42);
     b.take(streams::turn(1, 0), Route::fast);
-    HOLD(std::get<PolygonAnswer>(b.question(0)) == PolygonAnswer{Finding::open_ring, 1, 0});
-    HOLD(b.fold() == Folded::done && std::get<PolygonAnswer>(b.question(0)) == PolygonAnswer{Finding::open_ring, 1, 0});
+    HOLD(std::get<PolygonAnswer>(b.question(0)) == PolygonAnswer{Finding::open_ring, {}, 1, 0});
+    HOLD(b.fold() == Folded::done && std::get<PolygonAnswer>(b.question(0)) == PolygonAnswer{Finding::open_ring, {}, 1, 0});
 }
 
 // The largest tables: a fresh load of them leaves room, and the questions do not fit one call.
@@ -281,7 +281,7 @@ void a_long_history(int rounds) {
         const auto answers = b.polygon_answers(), loaded = fresh.polygon_answers();
         bool equal = answers.size() == loaded.size();
         for (std::size_t p = 0; equal && p < answers.size(); p++)
-            equal = answers[p].finding == loaded[p].finding && answers[p].part == loaded[p].part && answers[p].stamp == stamps[p];
+            equal = answers[p] == PolygonAnswer{loaded[p].finding, loaded[p].position, stamps[p], loaded[p].part};
         HOLD(equal);
     }
 }

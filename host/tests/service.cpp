@@ -41,7 +41,7 @@ const std::string worked = "010000\n02000000000000000000000000\n02000003E8000000
                            "050000000400030000000000000000000003E8\n070000\n070003\n06000000060003\n";
 
 const std::string worked_answer = repeat("00\n", 9) + "0000000000000000000000003B9ACA00\n00000000000000000000000077359400\n07\n"
-                                                       "0000000000000000000000000000\n0000000000050000000077359400\n"
+                                                       "00000000000000000000000000000000\n00000000000000050000000077359400\n"
                                                        "000A000100020000FFFFFFFF88CA6C00\n";
 
 void stream_in_full() {
@@ -53,7 +53,7 @@ void stream_in_full() {
     HOLD(all.lines[9] == Answer(Report{Check::accepted, 0, 0, 0, 1000000000}));
     HOLD(all.lines[10] == Answer(Report{Check::accepted, 0, 0, 0, 2000000000}));
     HOLD(all.lines[11] == Answer(Refused{Refusal::late}));
-    HOLD(all.lines[13] == Answer(PolygonAnswer{Finding::none, 5, 2000000000}));
+    HOLD(all.lines[13] == Answer(PolygonAnswer{Finding::none, {}, 5, 2000000000}));
     HOLD(all.lines[14] == Answer(Report{Check::edge_same_direction, 1, 2, 0, -2000000000}));
 }
 
@@ -104,10 +104,10 @@ std::string one_ring(const std::vector<streams::Place> &points, const streams::R
 void examples_at_the_edges() {
     const auto bent = [](int h) { return one_ring({{0, 0, 0}, {1000, 0, 0}, {1000, 1000, 0}, {0, 1000, h}}, {0, 1, 2, 3, 0}, 10); };
     HOLD(last_line(bent(20)).substr(0, 16) == "0007000100000000");
-    HOLD(last_line(bent(21)).substr(0, 16) == "0006000000000001");
+    HOLD(last_line(bent(21)).substr(0, 16) == "0006000000010001");
     const auto steep = [](int h) { return one_ring({{0, 0, 0}, {1000, 0, 1000}, {1000, 1000, 1000}, {0, 1000, h}}, {0, 1, 2, 3, 0}, 10); };
     HOLD(last_line(steep(21)).substr(0, 16) == "0007000100000000"); // 10.5 mm off along z, 7.5 by true distance
-    HOLD(last_line(steep(29)).substr(0, 16) == "0006000000000001");
+    HOLD(last_line(steep(29)).substr(0, 16) == "0006000000010001");
     const auto bow = [](int y) { return one_ring({{0, 0, 0}, {1000, 1000, 0}, {1000, 0, 0}, {0, y, 0}}, {0, 1, 2, 3, 0}); };
     HOLD(last_line(bow(1000)).substr(0, 16) == "0004000000000001");
     HOLD(last_line(bow(2000)).substr(0, 16) == "0005000000000001");
@@ -160,22 +160,70 @@ void order_of_refusals() {
     HOLD(last_line(full + "03\n") == "04");
 }
 
-void answers_are_typed() {
-    HOLD(std::holds_alternative<Plain>(read_answer("00")));
-    for (int n = 1; n <= 7; n++) HOLD(read_answer("0" + std::to_string(n)) == Answer(Refused{static_cast<Refusal>(n)}));
-    HOLD(read_answer("000D000100020003FFFFFFFFFFFFFFFF") == Answer(Report{Check::no_volume, 1, 2, 3, -1}));
-    HOLD(read_answer("00000000000000008000000000000000") == Answer(Report{Check::accepted, 0, 0, 0, INT64_MIN}));
-    HOLD(read_answer("0006FFFFFFFF7FFFFFFFFFFFFFFF") == Answer(PolygonAnswer{Finding::not_planar, 0xFFFFFFFFu, INT64_MAX}));
-    for (const char *bad : {"", "0", "08", "0a", "000", "10000000000000000000000000000000", "000E0000000000000000000000000000",
-                            "0007000000000000000000000000", "0000000000000000000000003B9ACA0x"}) {
-        bool thrown = false;
-        try {
-            read_answer(bad);
-        } catch (const Unreadable &) {
-            thrown = true;
-        }
-        HOLD(thrown);
+Position entry(std::uint16_t index) { return {Position::Of::entry, index}; }
+Position edge(std::uint16_t index) { return {Position::Of::edge, index}; }
+
+// Where in the ring: in the report's b, in the question's answer, and in the sentences.
+void positions() {
+    const std::vector<streams::Place> late{{0, 0, 0}, {1000, 0, 0}, {1000, 500, 0}, {0, 1000, 0}, {1000, 1000, 0}, {0, 500, 0}};
+    const std::string crossed = one_ring(late, {0, 1, 2, 3, 4, 5, 0}); // edges 2 and 4; turned, 1 and 3
+    HOLD(last_line(crossed).substr(0, 16) == "0005000000020001");
+    HOLD(last_line(crossed + streams::question(0)) == "00050002000000000000000000000000");
+    HOLD(last_line(crossed + streams::turn(7, 0)).substr(0, 16) == "0005000000010001");
+    HOLD(last_line(crossed + streams::turn(7, 0) + streams::question(0)) == "00050001000000070000000000000000");
+    const Answers all = answer_all(crossed + streams::turn(7, 0) + streams::question(0));
+    const Answer &report = all.lines[all.lines.size() - 2];
+    HOLD(report == Answer(Report{Check::edges_meet, 0, 1, 1, 0}) && std::get<Report>(report).position() == edge(1));
+    HOLD(all.lines.back() == Answer(PolygonAnswer{Finding::edges_meet, edge(1), 7, 0}));
+    const auto again = one_ring({{0, 0, 0}, {1000, 0, 0}, {1000, 1000, 0}}, {0, 1, 2, 2, 1, 0});
+    HOLD(last_line(again).substr(0, 16) == "0003000000030001");
+    HOLD(last_line(again + streams::question(0)).substr(0, 8) == "00030003");
+    HOLD(last_line(one_ring({{0, 0, 0}, {1000, 0, 0}}, {0, 0, 1, 1}) + streams::question(0)).substr(0, 8) == "00020000");
+
+    HOLD(sentence(Finding::edges_meet, 3, edge(17)) == "Edge 17 of polygon 3 meets another edge where it must not.");
+    HOLD(sentence(Finding::number_twice, 3, entry(5)) == "The number of entry 5 of polygon 3 stood earlier in its ring.");
+    HOLD(sentence(Finding::not_planar, 2, entry(4)) == "Entry 4 of polygon 2 lies further from the polygon's plane than the tolerance.");
+    HOLD(sentence(Finding::open_ring, 2, {}) == sentence(Finding::open_ring));
+    HOLD(sentence(Report{Check::not_planar, 2, 4, 1, 0}) == sentence(Finding::not_planar, 2, entry(4)));
+    HOLD(sentence(Report{Check::edge_once, 2, 4, 0, 0}) == sentence(Check::edge_once));
+    for (int c = 0; c <= 0x0D; c++) {
+        const bool has = framecheck_position_sentence(c) != nullptr;
+        HOLD((positioned(static_cast<Check>(c)) != Position::Of::nothing) == has);
+        HOLD(Report{static_cast<Check>(c), 2, 4, 1, 0}.position().index == (has ? 4 : 0));
     }
+}
+
+bool unreadable(std::string_view frame, std::string_view line) {
+    try {
+        read_answer(frame, line);
+    } catch (const Unreadable &) {
+        return true;
+    }
+    return false;
+}
+
+void answers_are_typed() {
+    for (const char *kind : {"01", "02", "03"}) HOLD(std::holds_alternative<Plain>(read_answer(kind, "00")));
+    for (const char *kind : {"", "04", "05", "06", "07", "no frame"}) HOLD(unreadable(kind, "00"));
+    for (int n = 1; n <= 7; n++)
+        for (const char *kind : {"", "01", "04", "07", "no frame"})
+            HOLD(read_answer(kind, "0" + std::to_string(n)) == Answer(Refused{static_cast<Refusal>(n)}));
+    for (const char *kind : {"04", "05", "06"}) {
+        HOLD(read_answer(kind, "000D000100020003FFFFFFFFFFFFFFFF") == Answer(Report{Check::no_volume, 1, 2, 3, -1}));
+        HOLD(read_answer(kind, "00000000000000008000000000000000") == Answer(Report{Check::accepted, 0, 0, 0, INT64_MIN}));
+        HOLD(unreadable(kind, "000E0000000000000000000000000000"));
+    }
+    // The same digits say another thing of a question.
+    const std::string_view digits = "0006007EFFFFFFFF7FFFFFFFFFFFFFFF";
+    HOLD(read_answer("070000", digits) == Answer(PolygonAnswer{Finding::not_planar, entry(126), 0xFFFFFFFFu, INT64_MAX}));
+    HOLD(read_answer("06", digits) == Answer(Report{Check::not_planar, 126, 0xFFFF, 0xFFFF, INT64_MAX}));
+    HOLD(unreadable("07", "00020001000000000000000000000000")); // an open ring has no position
+    HOLD(unreadable("07", "00070000000000000000000000000000") && unreadable("03", "00000000000000000000000000000000"));
+    // A question's answer without its position, or of any other length.
+    for (std::size_t length = 0; length < 40; length++)
+        for (const char *kind : {"04", "07"}) HOLD(unreadable(kind, std::string(length, '0')) == (length != 32));
+    for (const char *bad : {"", "0", "08", "0a", "000", "10000000000000000000000000000000", "0000000000000000000000003B9ACA0x"})
+        for (const char *kind : {"01", "04", "07"}) HOLD(unreadable(kind, bad));
     std::set<std::string_view> sentences;
     for (int c = 0; c <= 0x0D; c++) sentences.insert(sentence(static_cast<Check>(c)));
     for (int r = 1; r <= 7; r++) sentences.insert(sentence(static_cast<Refusal>(r)));
@@ -206,6 +254,7 @@ int main(int argc, char **argv) {
     whole_stream_refusals();
     examples_at_the_edges();
     order_of_refusals();
+    positions();
     answers_are_typed();
     fenced_streams(argc > 1 ? std::atoi(argv[1]) : 500);
     return test::finish();
