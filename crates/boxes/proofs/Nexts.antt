@@ -3,7 +3,7 @@ use Prim.Native.Nat.{ℕ, _+_, _-_, _≤_, _<_}
 use native.Mathlib.Omega.{arith}
 use native.Mathlib.Decide.{decLt}
 use mathlib.Core.Path.{_≡_, refl, sym, ap, _∙_}
-use mathlib.Core.Bool.{Bool, true, false, _||_}
+use mathlib.Core.Bool.{Bool, true, false, _||_, false≢true}
 use mathlib.Core.List.{List}
 use lib.ListN.{drop}
 use lib.IntN.{ℤ}
@@ -11,18 +11,22 @@ use Rattle.whole.specs.Lists.{any, tab}
 use Rattle.whole.specs.laws.Bools.{or-left, or-right}
 use Rattle.crossing.specs.Crossed.{forbidden, crossedAt}
 use Rattle.plane.specs.held.Edges.{edgeAt}
-use Rattle.boxes.specs.held.Around.{Nexts, FirstNext, FirstNear}
+use Rattle.boxes.specs.held.Around.{NextClash, Nexts, FirstNext, FirstNear}
 use Rattle.crossing.specs.laws.Pairs.{edges, row-here, row-back-to, rowAt, Clear, clear-found, clear-end}
 
 -- ---- edges that follow one another: the first n are looked at
 module _ (us vs : List ℤ) (m : ℕ) where
   pub nexts-none : Nexts us vs m 0 false
-  nexts-none = record { none = λ e i h. absurd (omega arith) }
+  nexts-none = record { some = λ e. absurd (false≢true e); none = λ e i h. absurd (omega arith) }
 
-  pub nexts-more : {n : ℕ} {r : Bool} → Nexts us vs m n r → (clash : Bool)
+  pub nexts-more : {n : ℕ} {r : Bool} → Nexts us vs m n r → n + 1 < m → (clash : Bool)
       → clash ≡ forbidden m (n, edgeAt us vs n) (n + 1, edgeAt us vs (n + 1)) → Nexts us vs m (n + 1) (r || clash)
-  nexts-more {n} {r} f clash e = record { none = λ t i l g. none t i l g (decLt i n) }
+  nexts-more {n} {r} f h clash e = record { some = some r refl; none = λ t i l g. none t i l g (decLt i n) }
     where
+      some : (b : Bool) → r ≡ b → (b || clash) ≡ true → NextClash us vs m (n + 1)
+      some true z t = let c = f .some z in record { edge = c .edge; below = omega (arith, c .below); followed = c .followed; clash = c .clash }
+      some false z t = record { edge = n; below = omega arith; followed = h; clash = sym e ∙ t }
+
       none : (r || clash) ≡ false → (i : ℕ) → i < n + 1 → i + 1 < m → Dec (i < n) → forbidden m (i, edgeAt us vs i) (i + 1, edgeAt us vs (i + 1)) ≡ false
       none t i l g (yes p) = f .none (or-left r clash t) i p g
       none t i l g (no p) =
@@ -30,10 +34,14 @@ module _ (us vs : List ℤ) (m : ℕ) where
           ap (λ (i : ℕ). forbidden m (i, edgeAt us vs i) (i + 1, edgeAt us vs (i + 1))) z ∙ sym e ∙ or-right r clash t
 
   pub nexts-end : {n : ℕ} {r : Bool} → Nexts us vs m n r → m ≤ n + 1 → Nexts us vs m m r
-  nexts-end f h = record { none = λ t i l g. f .none t i (omega arith) g }
+  nexts-end f h =
+      record {
+        some = λ t. let c = f .some t in record { edge = c .edge; below = omega (arith, c .followed); followed = c .followed; clash = c .clash };
+        none = λ t i l g. f .none t i (omega arith) g;
+      }
 
   pub nexts-false : {n : ℕ} {r : Bool} → Nexts us vs m n r → r ≡ false → Nexts us vs m n false
-  nexts-false f t = record { none = λ _. f .none t }
+  nexts-false f t = record { some = λ e. absurd (false≢true e); none = λ _. f .none t }
 
   -- ---- the first that has with the next one
   pub next-found : {n : ℕ} → Nexts us vs m n false → n + 1 < m → forbidden m (n, edgeAt us vs n) (n + 1, edgeAt us vs (n + 1)) ≡ true → FirstNext us vs m n

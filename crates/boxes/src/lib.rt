@@ -55,7 +55,7 @@ fn clash_next(us: &[i64], vs: &[i64], m: usize, i: usize) -> bool
     )
 }
 
-// Whether some edge of m and the next one do, all being looked at: no step of this branches. Where it is false none do.
+// Whether some edge of m and the next one do, all being looked at: no step of this branches.
 fn clash_nexts(us: &[i64], vs: &[i64], m: usize) -> bool
     requires { ⌜ Spread (now us) (now vs) m ⌝ }
     requires { ⌜ m ≤ 128 ⌝ }

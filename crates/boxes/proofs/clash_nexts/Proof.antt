@@ -29,7 +29,7 @@ loop-less : tie.Need-loop-less Inv-loop μ-loop
 loop-less c = search needs
 
 loop-again : tie.Need-loop-again Inv-loop μ-loop
-loop-again c = (omega arith, nexts-more _ _ _ (c .before .before .loop .inv .1) _ (c .clash-next .ensures))
+loop-again c = (omega arith, nexts-more _ _ _ (c .before .before .loop .inv .1) (c .before .loop-test .taken) _ (c .clash-next .ensures))
 
 returns : tie.Need-returns Inv-loop μ-loop
 returns c = nexts-end _ _ _ (c .before .loop .inv .1) (c .loop-test .left)

@@ -34,7 +34,7 @@ loop-less : tie.Need-loop-less Inv-loop μ-loop
 loop-less c = search needs
 
 loop-again : tie.Need-loop-again Inv-loop μ-loop
-loop-again c = (omega arith, nexts-more _ _ _ (c .before .before .before .loop .inv .1) false (sym (c .if1 .left) ∙ c .before .clash-next .ensures))
+loop-again c = (omega arith, nexts-more _ _ _ (c .before .before .before .loop .inv .1) (c .before .before .loop-test .taken) false (sym (c .if1 .left) ∙ c .before .clash-next .ensures))
 
 returns-2 : tie.Need-returns-2 Inv-loop μ-loop
 returns-2 c = next-none _ _ _ (nexts-end _ _ _ (c .before .loop .inv .1) (c .loop-test .left))

@@ -20,8 +20,16 @@ pub record Free (us vs : List ℤ) (m i : ℕ) : Type 0 where
   pub next : i + 1 < m → forbidden m (i, edgeAt us vs i) (i + 1, edgeAt us vs (i + 1)) ≡ false
   pub last : i ≡ 0 → 3 ≤ m → forbidden m (0, edgeAt us vs 0) (m - 1, edgeAt us vs (m - 1)) ≡ false
 
--- where r does not hold, none of the first n edges has, with the next one
+-- one of the first n edges has, with the next one
+pub record NextClash (us vs : List ℤ) (m n : ℕ) : Type 0 where
+  pub edge : ℕ
+  pub below : edge < n
+  pub followed : edge + 1 < m
+  pub clash : forbidden m (edge, edgeAt us vs edge) (edge + 1, edgeAt us vs (edge + 1)) ≡ true
+
+-- r tells whether one has
 pub record Nexts (us vs : List ℤ) (m n : ℕ) (r : Bool) : Type 0 where
+  pub some : r ≡ true → NextClash us vs m n
   pub none : r ≡ false → (i : ℕ) → i < n → i + 1 < m → forbidden m (i, edgeAt us vs i) (i + 1, edgeAt us vs (i + 1)) ≡ false
 
 -- edge r is the first that has, with the next one; m if there is none

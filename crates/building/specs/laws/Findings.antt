@@ -12,14 +12,13 @@ use Rattle.plane.specs.Plane.{largestAxis}
 use Rattle.polygon.specs.declared.Finding.{Finding}
 use Rattle.polygon.specs.declared.Finding.the-variants.{Sound, Short, Unclosed, Repeated, NoNormal, Crossed, Uneven}
 use Rattle.polygon.specs.Ring.{isShort, edgesIn, finding, findingNumber, findingPosition}
-use Rattle.polygon.specs.held.Position.{hasPosition}
 use Rattle.ring.specs.Entries.{isUnclosed, isRepeated}
 use Rattle.normal.specs.Normal.{normal, isZero}
 use Rattle.crossing.specs.Crossed.{isCrossed, crossedAt}
 use Rattle.even.specs.Even.{isUneven, unevenAt}
 use Rattle.polygon.specs.laws.TurnFinding.{number-turned}
 use Rattle.building.specs.Report.{isFault}
-use Rattle.polygon.specs.held.Findings.{keptFinding, findingOf, isPlaced}
+use Rattle.polygon.specs.held.Findings.{keptFinding, findingOf}
 use Rattle.building.specs.held.Holds.{isBroken}
 
 -- ---- what is kept tells the finding
@@ -65,17 +64,6 @@ kept-fault (Repeated i) = lt-ltb 0 (16 * i + 3) (omega arith)
 kept-fault NoNormal = refl
 kept-fault (Crossed i) = lt-ltb 0 (16 * i + 5) (omega arith)
 kept-fault (Uneven i) = lt-ltb 0 (16 * i + 6) (omega arith)
-
--- ---- whether a finding has a position, by its number
-pub kept-placed : (f : Finding) → isPlaced (findingNumber f) ≡ hasPosition f
-unfolding isPlaced hasPosition findingNumber
-kept-placed Sound = refl
-kept-placed Short = refl
-kept-placed Unclosed = refl
-kept-placed (Repeated i) = refl
-kept-placed NoNormal = refl
-kept-placed (Crossed i) = refl
-kept-placed (Uneven i) = refl
 
 -- a number of checks 01 to 03
 pub record Early (n : ℕ) : Type 0 where

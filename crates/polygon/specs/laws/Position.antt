@@ -15,6 +15,7 @@ use Rattle.polygon.specs.declared.Finding.{Finding}
 use Rattle.polygon.specs.declared.Finding.the-variants.{Sound, Short, Unclosed, Repeated, NoNormal, Crossed, Uneven}
 use Rattle.polygon.specs.Ring.{isShort, edgesIn, finding, findingNumber, findingPosition}
 use Rattle.polygon.specs.Position.{Position}
+use Rattle.polygon.specs.held.Findings.{isPlaced}
 use Rattle.polygon.specs.held.Position.{hasPosition}
 use Rattle.ring.specs.Entries.{isUnclosed, isRepeated, repeatedAt}
 use Rattle.ring.specs.Position.{Stood}
@@ -28,24 +29,16 @@ use Rattle.even.specs.Position.{Off}
 use Rattle.even.specs.laws.Least.{uneven-is, uneven-least}
 
 -- ---- which findings have a position
--- whether a finding of this number has one
-positioned : ℕ → Bool
-positioned zero = false
-positioned (suc zero) = false
-positioned (suc (suc zero)) = false
-positioned (suc (suc (suc zero))) = true
-positioned (suc (suc (suc (suc zero)))) = false
-positioned (suc (suc (suc (suc (suc n))))) = true
-
-positioned-is : (f : Finding) → hasPosition f ≡ positioned (findingNumber f)
-unfolding hasPosition positioned findingNumber
-positioned-is Sound = refl
-positioned-is Short = refl
-positioned-is Unclosed = refl
-positioned-is (Repeated i) = refl
-positioned-is NoNormal = refl
-positioned-is (Crossed i) = refl
-positioned-is (Uneven i) = refl
+-- its number tells whether a finding has one
+pub placed-is : (f : Finding) → isPlaced (findingNumber f) ≡ hasPosition f
+unfolding isPlaced hasPosition findingNumber
+placed-is Sound = refl
+placed-is Short = refl
+placed-is Unclosed = refl
+placed-is (Repeated i) = refl
+placed-is NoNormal = refl
+placed-is (Crossed i) = refl
+placed-is (Uneven i) = refl
 
 -- the finding without a position of this number
 bare : ℕ → Finding
@@ -78,7 +71,7 @@ sixth (Uneven i) h a b = refl
 -- where a finding has none, its number tells it
 pub number-same : (f g : Finding) → hasPosition f ≡ false → findingNumber f ≡ findingNumber g → f ≡ g
 number-same f g h e =
-    sym (bare-is f h) ∙ ap bare e ∙ bare-is g (positioned-is g ∙ ap positioned (sym e) ∙ sym (positioned-is f) ∙ h)
+    sym (bare-is f h) ∙ ap bare e ∙ bare-is g (sym (placed-is g) ∙ ap isPlaced (sym e) ∙ placed-is f ∙ h)
 
 -- ---- as many places as entries, and an edge less
 module _ (points : List Point) (ring : List ℕ) where

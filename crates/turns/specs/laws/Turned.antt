@@ -33,7 +33,8 @@ use Rattle.building.specs.declared.Scalars.{Scalars}
 use Rattle.building.specs.Tables.{turned}
 use Rattle.building.specs.held.Holds.{isBroken, Arrays, arrays, heldTables, heldBuilding, Loaded, Found, Summed, Broken, Shown, Held, Did}
 use Rattle.polygon.specs.held.Findings.{keptFinding, isPlaced}
-use Rattle.building.specs.laws.Findings.{broken-turned, kept-number, kept-placed}
+use Rattle.building.specs.laws.Findings.{broken-turned, kept-number}
+use Rattle.polygon.specs.laws.Position.{placed-is}
 use Rattle.building.specs.held.Rings.{Ring}
 use Rattle.building.specs.laws.Rings.{ring-of}
 use Rattle.turns.specs.held.Rings.{turnedEntries}
@@ -92,7 +93,7 @@ module _ (tolerance : ℕ) (points : List Point) (ring : List ℕ) {k : ℕ} (e 
   turned-number = kept-number (finding tolerance points (reverse ring)) e ∙ number-turned tolerance points ring
 
   pub turned-placed : isPlaced (k % 16) ≡ hasPosition (finding tolerance points ring)
-  turned-placed = ap isPlaced turned-number ∙ kept-placed (finding tolerance points ring)
+  turned-placed = ap isPlaced turned-number ∙ placed-is (finding tolerance points ring)
 
   -- without a position it is what it was
   pub turned-kept : isPlaced (k % 16) ≡ false → k ≡ keptFinding (finding tolerance points ring)
