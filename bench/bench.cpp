@@ -13,6 +13,10 @@
 #include <ucontext.h>
 #include <vector>
 
+// MARCH is the word that bench/run gives to -march.
+#define TEXT(word) #word
+#define TEXT_OF(word) TEXT(word)
+
 namespace {
 
 using Entry = std::int64_t (*)(const std::uint8_t *, std::size_t, std::uint8_t *, std::size_t);
@@ -255,7 +259,7 @@ void machine() {
         }
     std::string load;
     std::getline(std::ifstream("/proc/loadavg") >> std::ws, load);
-    std::printf("CPU %s; baselines by %s %s, -O3 -march=native; load average %s\n", model.c_str(),
+    std::printf("CPU %s; baselines by %s %s, -O3 -march=" TEXT_OF(MARCH) "; load average %s\n", model.c_str(),
 #ifdef __clang__
                 "clang",
 #else

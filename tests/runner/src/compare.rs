@@ -1,7 +1,7 @@
 //! What is asked of the product on one stream: the oracle's answers, nothing else written, and the laws that hold between streams.
 
 use crate::prng::Dice;
-use crate::product::Subject;
+use crate::product::{Lent, Subject};
 use oracle::held::{step, State};
 use oracle::stream::{lines, whole_stream_refusal};
 use oracle::tables::Tables;
@@ -22,16 +22,17 @@ struct Left {
 fn call(subject: Subject, stream: &[u8], room: usize, dice: &mut Dice) -> Result<Left, String> {
     let (from, start) = (MARGIN + dice.below(16), MARGIN + dice.below(16));
     let around = *dice.pick(b"\n0F");
-    let mut lent_stream = vec![around; from + stream.len() + MARGIN];
-    lent_stream[from..from + stream.len()].copy_from_slice(stream);
-    let stream_before = lent_stream.clone();
+    let mut stream_before = vec![around; from + stream.len() + MARGIN];
+    stream_before[from..from + stream.len()].copy_from_slice(stream);
     let words = (start + room + MARGIN).div_ceil(8);
     let room_before: Vec<u8> = (0..words).flat_map(|_| dice.next().to_le_bytes()).collect();
-    let mut lent_room = room_before.clone();
-    let number = subject.answer(&lent_stream[from..from + stream.len()], &mut lent_room[start..start + room]);
-    if lent_stream != stream_before {
+    let (stream_at, room_at) = (from..from + stream.len(), start..start + room);
+    let mut lent = Lent { stream_buffer: stream_before.clone(), stream_at, room_buffer: room_before.clone(), room_at };
+    let number = subject.answer(&mut lent);
+    if lent.stream_buffer != stream_before {
         return Err("the stream was written to".to_string());
     }
+    let lent_room = lent.room_buffer;
     if lent_room[..start] != room_before[..start] || lent_room[start + room..] != room_before[start + room..] {
         return Err(format!("bytes outside the room of {room} were written to"));
     }

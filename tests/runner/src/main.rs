@@ -11,6 +11,8 @@ mod reach;
 mod reach_positions;
 mod repeats;
 mod script;
+#[cfg(not(product))]
+mod served;
 mod solids;
 
 use families::{family_of, stream, FAMILIES};
@@ -52,7 +54,7 @@ fn asked() -> Asked {
     }
     asked.count = plain.first().copied().unwrap_or(asked.count);
     asked.seed = plain.get(1).copied().unwrap_or(asked.seed);
-    if asked.subject == Subject::Product && !product::LINKED {
+    if asked.subject == Subject::Product && !product::is_here() {
         usage("built without the product's archive: run `rt staticlib checker` first, or ask for --self-check");
     }
     asked
