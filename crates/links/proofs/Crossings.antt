@@ -1,5 +1,5 @@
 -- The tables of corners across from corners: what one word writes, and that all words together write what the pairs join.
-use Prim.Native.Nat.{ℕ, zero, suc, _+_, _-_, _/_, _%_, _≤_, _<_}
+use Prim.Native.Nat.{ℕ, _+_, _/_, _%_, _≤_, _<_}
 use native.Mathlib.Decide.{ℕ-discrete, decLt}
 use native.Mathlib.Nat.{not-suc-le-zero}
 use native.Mathlib.Omega.{arith}
@@ -7,14 +7,14 @@ use mathlib.Core.Path.{_≡_, refl, sym, ap, subst, _∙_}
 use mathlib.Core.Logic.{_⊎_, inl, inr, ⊎-elim, _≢_, by-cases}
 use mathlib.Core.List.{List}
 use lib.ListN.{length, getD, set, length-set, List·getD-eq-default}
-use Rattle.words.specs.held.Words.{stepOf, nextOf, dirOf}
-use Rattle.words.specs.held.Words.{nodeOf, Mate}
+use Rattle.words.specs.held.Words.{stepOf, nextOf, nodeOf, Mate}
 use Rattle.reach.specs.held.Marking.{Joined}
 use Rattle.links.specs.held.Linking.{Joins, Nodes, Selves, Links, Lone, Crossed}
-use Rattle.words.specs.laws.Nodes.{pick-then, pick-else}
-use Rattle.reach.specs.laws.Sweeps.{at-set}
+use Rattle.reach.specs.laws.Marks.{at-set}
 use Rattle.words.specs.laws.Mates.{mate-up, mate-down, mate-one}
 use Rattle.reach.specs.laws.Joined.{mate-joined}
+use Rattle.links.proofs.Ends.{End, outEnd, innEnd, step-node, next-node, out-end, inn-end, side}
+use Rattle.links.proofs.Corners.{joins-at}
 
 -- one more entry of a table of its own places
 module _ (t : List ℕ) (i : ℕ) (z : length t ≡ 1024) (s : (k : ℕ) → k < i → getD t k 0 ≡ k) where
@@ -100,61 +100,28 @@ module _ (g : ℕ → ℕ) (f : ℕ → ℕ → ℕ) (l t : List ℕ) (i k : ℕ
 
 -- ---- both tables
 
--- the end of its edge at which a word's step starts, and the other one
+-- the corner of w at the end at which the step of v starts, and the one at the other end
 abbrev pub outOf : ℕ → ℕ → ℕ
-outOf v w = nodeOf (1 + dirOf v) w
+outOf v w = nodeOf (outEnd v) w
 
 abbrev pub innOf : ℕ → ℕ → ℕ
-innOf v w = nodeOf (3 - (1 + dirOf v)) w
-
--- the step of a word of direction d starts at one end of its edge, and ends at the other
-starts-at : (d v : ℕ) → d ≡ dirOf v → d < 2 → (stepOf v ≡ nodeOf (1 + d) v) × (nextOf v ≡ nodeOf (3 - (1 + d)) v)
-starts-at zero v e h = (pick-then (dirOf v) (stepOf v) (nextOf v) (sym e), pick-then (dirOf v) (nextOf v) (stepOf v) (sym e))
-starts-at (suc zero) v e h = (pick-else (dirOf v) (nextOf v) (stepOf v) (λ z. omega arith), pick-else (dirOf v) (stepOf v) (nextOf v) (λ z. omega arith))
-starts-at (suc (suc d)) v e h = absurd (omega arith)
-
-dir-small : (v : ℕ) → dirOf v < 2
-dir-small v = omega arith
-
-step-node : (v : ℕ) → stepOf v ≡ outOf v v
-step-node v = starts-at (dirOf v) v refl (dir-small v) .0
-
-next-node : (v : ℕ) → nextOf v ≡ innOf v v
-next-node v = starts-at (dirOf v) v refl (dir-small v) .1
-
--- the ends are 1 and 2
-abbrev End : ℕ → Type 0
-End h = (h ≡ 1) ⊎ (h ≡ 2)
-
-out-end : (v : ℕ) → End (1 + dirOf v)
-out-end v = by-cases (ℕ-discrete (dirOf v) 0) (λ e. inl (omega arith)) (λ n. inr (omega (arith, dir-small v)))
-
-inn-end : (v : ℕ) → End (3 - (1 + dirOf v))
-inn-end v = by-cases (ℕ-discrete (dirOf v) 0) (λ e. inr (omega arith)) (λ n. inl (omega (arith, dir-small v)))
-
-side : (h v : ℕ) → End h → (h ≡ 1 + dirOf v) ⊎ (h ≡ 3 - (1 + dirOf v))
-side h v (inl a) = by-cases (ℕ-discrete (dirOf v) 0) (λ e. inl (omega arith)) (λ n. inr (omega (arith, dir-small v)))
-side h v (inr a) = by-cases (ℕ-discrete (dirOf v) 0) (λ e. inr (omega arith)) (λ n. inl (omega (arith, dir-small v)))
+innOf v w = nodeOf (innEnd v) w
 
 module _ (l : List ℕ) where
-  joins-at : (h p q : ℕ) → End h → Joined l (nodeOf h) p q → Joins 1 2 l p q
-  joins-at h p q (inl e) j = inl (subst (λ (x : ℕ). Joined l (nodeOf x) p q) e j)
-  joins-at h p q (inr e) j = inr (subst (λ (x : ℕ). Joined l (nodeOf x) p q) e j)
-
   -- what a word writes is joined
   noted-joins : (h p q i k : ℕ) → i < length l → Mate (length l) i k → End h → nodeOf h (getD l i 0) ≡ p → nodeOf h (getD l k 0) ≡ q → (p ≡ q) ⊎ Joins 1 2 l p q
-  noted-joins h p q i k lt m z a b = ⊎-elim (λ (e : i ≡ k). inl (sym a ∙ (ap (λ (x : ℕ). nodeOf h (getD l x 0)) e ∙ b))) (λ (j : Joined l (nodeOf h) (nodeOf h (getD l i 0)) (nodeOf h (getD l k 0))). inr (joins-at h p q z (rw (a, b) at j))) (mate-joined l (nodeOf h) i k lt m)
+  noted-joins h p q i k lt m z a b = ⊎-elim (λ (e : i ≡ k). inl (sym a ∙ (ap (λ (x : ℕ). nodeOf h (getD l x 0)) e ∙ b))) (λ (j : Joined l (nodeOf h) (nodeOf h (getD l i 0)) (nodeOf h (getD l k 0))). inr (joins-at l h p q z (rw (a, b) at j))) (mate-joined l (nodeOf h) i k lt m)
 
   module _ (out inn : List ℕ) (i : ℕ) (a : Noting stepOf outOf l out i) (b : Noting nextOf innOf l inn i) (ge : length l ≤ i) where
     sound : (p q : ℕ) → p < 1024 → Links out inn p q → (p ≡ q) ⊎ Joins 1 2 l p q
-    sound p q h (inl e) = ⊎-elim (λ (z : p ≡ q). inl z) (λ (w : Noted stepOf outOf l p q). let v = getD l (w .at) 0 in noted-joins (1 + dirOf v) p q (w .at) (w .to) (w .within) (w .mate) (out-end v) (sym (step-node v) ∙ w .from) (w .ends)) (a .sound p q h e)
-    sound p q h (inr e) = ⊎-elim (λ (z : p ≡ q). inl z) (λ (w : Noted nextOf innOf l p q). let v = getD l (w .at) 0 in noted-joins (3 - (1 + dirOf v)) p q (w .at) (w .to) (w .within) (w .mate) (inn-end v) (sym (next-node v) ∙ w .from) (w .ends)) (b .sound p q h e)
+    sound p q h (inl e) = ⊎-elim (λ (z : p ≡ q). inl z) (λ (w : Noted stepOf outOf l p q). let v = getD l (w .at) 0 in noted-joins (outEnd v) p q (w .at) (w .to) (w .within) (w .mate) (out-end v) (sym (step-node v) ∙ w .from) (w .ends)) (a .sound p q h e)
+    sound p q h (inr e) = ⊎-elim (λ (z : p ≡ q). inl z) (λ (w : Noted nextOf innOf l p q). let v = getD l (w .at) 0 in noted-joins (innEnd v) p q (w .at) (w .to) (w .within) (w .mate) (inn-end v) (sym (next-node v) ∙ w .from) (w .ends)) (b .sound p q h e)
 
     module _ (f : Lone stepOf l) (g : Lone nextOf l) where
       across : (h j k : ℕ) → j < length l → Mate (length l) j k → End h → Links out inn (nodeOf h (getD l j 0)) (nodeOf h (getD l k 0))
       across h j k lt m z = go (side h (getD l j 0) z)
         where
-          go : (h ≡ 1 + dirOf (getD l j 0)) ⊎ (h ≡ 3 - (1 + dirOf (getD l j 0))) → Links out inn (nodeOf h (getD l j 0)) (nodeOf h (getD l k 0))
+          go : (h ≡ outEnd (getD l j 0)) ⊎ (h ≡ innEnd (getD l j 0)) → Links out inn (nodeOf h (getD l j 0)) (nodeOf h (getD l k 0))
           go (inl e) = inl (ap (λ (x : ℕ). getD out x 0) (ap (λ (x : ℕ). nodeOf x (getD l j 0)) e ∙ sym (step-node (getD l j 0))) ∙ (a .whole f j k (omega arith) lt m ∙ ap (λ (x : ℕ). nodeOf x (getD l k 0)) (sym e)))
           go (inr e) = inr (ap (λ (x : ℕ). getD inn x 0) (ap (λ (x : ℕ). nodeOf x (getD l j 0)) e ∙ sym (next-node (getD l j 0))) ∙ (b .whole g j k (omega arith) lt m ∙ ap (λ (x : ℕ). nodeOf x (getD l k 0)) (sym e)))
 

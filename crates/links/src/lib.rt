@@ -1,48 +1,65 @@
 // Check 0C: what corners the first corner of each point reaches across the edges that end there.
 
 ghost use mathlib.Core.Path.{_≡_};
-ghost use Prim.Native.Nat.{_+_, _<_, _≤_, max};
+ghost use mathlib.Core.List.{List};
+ghost use Prim.Native.Nat.{ℕ, _+_, _<_, _≤_};
 ghost use lib.ListN.{length};
+ghost use Rattle.bits.specs.held.Bits.{marksOf};
 ghost use Rattle.words.specs.held.Words.{stepOf, nextOf, dirOf};
-ghost use Rattle.reach.specs.held.Marking.{Marks, Marked, Swept, Flooded, Blank};
+ghost use Rattle.reach.specs.held.Marking.{Marked, Flooded, Blank};
 ghost use Rattle.whole.specs.Least.{LeastBelow};
-ghost use Rattle.links.specs.held.Linking.{Linked, Joins, Pointed, Seeds, Cut, Unlinks, Selves, Nodes, Links, Lone, Crossed, Onward, Walked, Traced};
+ghost use Rattle.links.specs.held.Linking.{Joins, Pointed, Cornered, Met, Begun, Cut, Unlinks, Selves, Nodes, Links, Lone, Crossed, Onward, Walked, Traced};
 
-// Marks both of two nodes where one is marked; 1 where the other was not.
-fn join(marks: &mut [u8; 1024], x: usize, y: usize) -> usize
-    requires { ⌜ Marks (now marks) × (x < 1024) × (y < 1024) ⌝ }
-    ensures { λ r. ⌜ Swept (Linked x y) (now (marks .entry)) (now (marks .exit)) r ⌝ }
+// No marks.
+fn blank() -> [u64; 16]
+    ensures { λ r. ⌜ (length r ≡ 16) × Blank 1024 (marksOf r) ⌝ }
 {
-    if marks[x] != marks[y] {
-        marks[x] = 1;
-        marks[y] = 1;
-        return 1;
+    [0u64; 16]
+}
+
+// One end of an edge, at point v, where the edge joins corners x and y: where v is not yet seen, x is its first corner and is marked; then
+// the two are joined.
+fn meet(seen: &mut [u64; 16], marks: &mut [u64; 16], v: usize, x: usize, y: usize)
+    requires { ⌜ (length (now seen) ≡ 16) × (length (now marks) ≡ 16) × (v < 1024) × (x < 1024) × (y < 1024) ⌝ }
+    ensures { λ r. ⌜ (length (now (seen .exit)) ≡ 16) × (length (now (marks .exit)) ≡ 16) × Met v x y (marksOf (now (seen .entry))) (marksOf (now (marks .entry))) (marksOf (now (seen .exit))) (marksOf (now (marks .exit))) ⌝ }
+{
+    if !bits::is_marked(seen, v) {
+        bits::mark(seen, v);
+        bits::mark(marks, x);
     }
-    0
+    reach::join(marks, x, y);
 }
 
-fn larger(a: usize, b: usize) -> usize
-    ensures { λ r. ⌜ r ≡ max a b ⌝ }
+// One pass over the pairs of words: marks the first corner that is met at each point, and the corners that the pass finds linked to it.
+// The points are taken from the edge, below 1,024 so that each has its mark whatever the words are: of loaded rings all are below 512.
+fn pass(words: &[u64], marks: &mut [u64; 16])
+    requires { ⌜ (length (now marks) ≡ 16) × Blank 1024 (marksOf (now marks)) ⌝ }
+    ensures { λ r. ⌜ (length (now (marks .exit)) ≡ 16) × ((es : List ℕ) → Cornered es (now (words .entry)) → Begun es (now (words .entry)) (marksOf (now (marks .exit)))) ⌝ }
 {
-    if a < b { b } else { a }
-}
-
-// One pass over the pairs of words, for the corners at both ends of their edge. 1 where some were marked.
-fn sweep_ends(words: &[u64], marks: &mut [u8; 1024]) -> usize
-    requires { ⌜ Marks (now marks) ⌝ }
-    ensures { λ r. ⌜ Swept (Joins 1 2 (now (words .entry))) (now (marks .entry)) (now (marks .exit)) r ⌝ }
-{
-    let mut changed: usize = 0;
+    let mut seen = blank();
     let mut i = 0;
     while i + 1 < words.len() {
         let v = words[i];
         let w = words[i + 1];
-        let low = join(marks, words::node_of(v, 1), words::node_of(w, 1));
-        let high = join(marks, words::node_of(v, 2), words::node_of(w, 2));
-        changed = larger(changed, larger(low, high));
+        let k = words::key_of(v);
+        let low = (k / 65536 % 1024) as usize;
+        let high = (k % 1024) as usize;
+        meet(
+            &mut seen,
+            marks,
+            low,
+            words::node_of(v, 1),
+            words::node_of(w, 1),
+        );
+        meet(
+            &mut seen,
+            marks,
+            high,
+            words::node_of(v, 2),
+            words::node_of(w, 2),
+        );
         i += 2;
     }
-    changed
 }
 
 // Each corner across from itself.
@@ -89,14 +106,14 @@ fn next_of(w: u64) -> usize
 
 // Marks corner after corner, from each to the one that it was not come from, up to one that has a mark. Each turn takes a corner that had
 // none.
-fn walk(out: &[u16; 1024], inn: &[u16; 1024], marks: &mut [u8; 1024], from: usize, to: usize)
-    requires { ⌜ Nodes (now out) × Nodes (now inn) × Marks (now marks) × Marked (now marks) from × Links (now out) (now inn) from to × (to < 1024) ⌝ }
-    ensures { λ r. ⌜ Walked (Links (now (out .entry)) (now (inn .entry))) to (now (marks .entry)) (now (marks .exit)) ⌝ }
+fn walk(out: &[u16; 1024], inn: &[u16; 1024], marks: &mut [u64; 16], from: usize, to: usize)
+    requires { ⌜ Nodes (now out) × Nodes (now inn) × (length (now marks) ≡ 16) × Marked (marksOf (now marks)) from × Links (now out) (now inn) from to × (to < 1024) ⌝ }
+    ensures { λ r. ⌜ (length (now (marks .exit)) ≡ 16) × Walked (Links (now (out .entry)) (now (inn .entry))) to (marksOf (now (marks .entry))) (marksOf (now (marks .exit))) ⌝ }
 {
     let mut p = from;
     let mut c = to;
-    while marks[c] == 0 {
-        marks[c] = 1;
+    while !bits::is_marked(marks, c) {
+        bits::mark(marks, c);
         let n = onward(wide(out[c]), wide(inn[c]), p);
         p = c;
         c = n;
@@ -111,13 +128,13 @@ fn onward(x: usize, y: usize, p: usize) -> usize
 }
 
 // Walks both ways from each marked corner.
-fn walks(out: &[u16; 1024], inn: &[u16; 1024], marks: &mut [u8; 1024])
-    requires { ⌜ Nodes (now out) × Nodes (now inn) × Marks (now marks) ⌝ }
-    ensures { λ r. ⌜ Traced (Links (now (out .entry)) (now (inn .entry))) (now (marks .entry)) (now (marks .exit)) ⌝ }
+fn walks(out: &[u16; 1024], inn: &[u16; 1024], marks: &mut [u64; 16])
+    requires { ⌜ Nodes (now out) × Nodes (now inn) × (length (now marks) ≡ 16) ⌝ }
+    ensures { λ r. ⌜ (length (now (marks .exit)) ≡ 16) × Traced (Links (now (out .entry)) (now (inn .entry))) (marksOf (now (marks .entry))) (marksOf (now (marks .exit))) ⌝ }
 {
     let mut e = 0;
     while e < 1024 {
-        if marks[e] == 1 {
+        if bits::is_marked(marks, e) {
             walk(out, inn, marks, e, wide(out[e]));
             walk(out, inn, marks, e, wide(inn[e]));
         }
@@ -127,9 +144,9 @@ fn walks(out: &[u16; 1024], inn: &[u16; 1024], marks: &mut [u8; 1024])
 
 // Marks whatever corner the marks reach across the pairs, where each corner has one pair of its own step and one of the step before.
 // Whatever the numbering, the tables take one turn an entry and one a word, and no corner begins more than two walks or is taken twice.
-fn trace(words: &[u64], marks: &mut [u8; 1024])
-    requires { ⌜ Marks (now marks) ⌝ }
-    ensures { λ r. ⌜ Marks (now (marks .exit)) × (Lone stepOf (now (words .entry)) → Lone nextOf (now (words .entry)) → Flooded (Joins 1 2 (now (words .entry))) (now (marks .entry)) (now (marks .exit))) ⌝ }
+fn trace(words: &[u64], marks: &mut [u64; 16])
+    requires { ⌜ length (now marks) ≡ 16 ⌝ }
+    ensures { λ r. ⌜ (length (now (marks .exit)) ≡ 16) × (Lone stepOf (now (words .entry)) → Lone nextOf (now (words .entry)) → Flooded (Joins 1 2 (now (words .entry))) (marksOf (now (marks .entry))) (marksOf (now (marks .exit)))) ⌝ }
 {
     let mut out = [0u16; 1024];
     let mut inn = [0u16; 1024];
@@ -139,59 +156,17 @@ fn trace(words: &[u64], marks: &mut [u8; 1024])
     walks(&out, &inn, marks);
 }
 
-// Marks whatever corner the marks reach across the pairs: eight sweeps at most, which are the quickest where they end, and walks for the
-// rest.
-fn flood(words: &[u64], marks: &mut [u8; 1024])
-    requires { ⌜ Marks (now marks) ⌝ }
-    ensures { λ r. ⌜ Marks (now (marks .exit)) × (Lone stepOf (now (words .entry)) → Lone nextOf (now (words .entry)) → Flooded (Joins 1 2 (now (words .entry))) (now (marks .entry)) (now (marks .exit))) ⌝ }
-{
-    let mut i: usize = 0;
-    while i < 8 {
-        let changed = sweep_ends(words, marks);
-        if changed == 0 {
-            return;
-        }
-        i += 1;
-    }
-    trace(words, marks);
-}
-
-// No marks.
-fn blank() -> [u8; 1024]
-    ensures { λ r. ⌜ Blank r ⌝ }
-{
-    [0u8; 1024]
-}
-
-// Marks the first corner of each point.
-fn seeds(words: &[u64], entries: &[u16; 1024], marks: &mut [u8; 1024])
-    requires { ⌜ Pointed (now entries) (now words) × Blank (now marks) ⌝ }
-    ensures { λ r. ⌜ Seeds (now (entries .entry)) (now (words .entry)) (now (marks .exit)) ⌝ }
-{
-    let mut seen = blank();
-    let mut i = 0;
-    while i < words.len() {
-        let s = step_of(words[i]);
-        let v = wide(entries[s]);
-        if seen[v] == 0 {
-            seen[v] = 1;
-            marks[s] = 1;
-        }
-        i += 1;
-    }
-}
-
 // The lowest point with a corner that has no mark, or 65536.
-fn lowest_cut(words: &[u64], entries: &[u16; 1024], marks: &[u8; 1024]) -> usize
-    requires { ⌜ Pointed (now entries) (now words) × (length (now marks) ≡ 1024) ⌝ }
-    ensures { λ r. ⌜ LeastBelow (Cut (now (entries .entry)) (now (words .entry)) (now (marks .entry))) 65536 r ⌝ }
+fn lowest_cut(words: &[u64], entries: &[u16; 1024], marks: &[u64; 16]) -> usize
+    requires { ⌜ Pointed (now entries) (now words) × (length (now marks) ≡ 16) ⌝ }
+    ensures { λ r. ⌜ LeastBelow (Cut (now (entries .entry)) (now (words .entry)) (marksOf (now (marks .entry)))) 65536 r ⌝ }
 {
     let mut best: usize = 65536;
     let mut i = 0;
     while i < words.len() {
         let s = step_of(words[i]);
         let v = wide(entries[s]);
-        if marks[s] == 0 {
+        if !bits::is_marked(marks, s) {
             if v < best {
                 best = v;
             }
@@ -201,14 +176,21 @@ fn lowest_cut(words: &[u64], entries: &[u16; 1024], marks: &[u8; 1024]) -> usize
     best
 }
 
-// Check 0C: the lowest point with a corner that its first corner does not reach across pairs that end at it, or 65536.
+// Check 0C: the lowest point with a corner that its first corner does not reach across pairs that end at it, or 65536. There are as many
+// corners as words, so that counting the marks tells whether each has one: mostly after the pass already, else after the walks.
 pub fn unlinked(words: &[u64], entries: &[u16; 1024]) -> usize
     requires { ⌜ Pointed (now entries) (now words) ⌝ }
-    ensures { λ r. ⌜ (Lone stepOf (now (words .entry)) → Lone nextOf (now (words .entry)) → Unlinks (now (entries .entry)) (now (words .entry)) r) ⌝ }
+    ensures { λ r. ⌜ (Cornered (now (entries .entry)) (now (words .entry)) → Unlinks (now (entries .entry)) (now (words .entry)) r) ⌝ }
 {
     let mut marks = blank();
-    seeds(words, entries, &mut marks);
-    flood(words, &mut marks);
+    pass(words, &mut marks);
+    if bits::count(&marks) == words.len() {
+        return 65536;
+    }
+    trace(words, &mut marks);
+    if bits::count(&marks) == words.len() {
+        return 65536;
+    }
     lowest_cut(words, entries, &marks)
 }
 

@@ -1,6 +1,5 @@
 -- What is proved of the definitions.
-pub mod Blanks
-pub mod Floods
+pub mod Marks
+pub mod Joins
 pub mod Joined
-pub mod Sweeps
 pub mod Agree

@@ -1,5 +1,5 @@
 -- The marks, each 0 or 1, that the bits of words stand for.
-use Prim.Native.Nat.{ℕ, zero, suc, _/_, _%_}
+use Prim.Native.Nat.{ℕ, zero, suc, _+_, _/_, _%_}
 use mathlib.Core.List.{List, [], _∷_, _++_}
 
 -- the n lowest bits of a word, the lowest first
@@ -11,3 +11,12 @@ bitsOf (suc n) w = w % 2 ∷ bitsOf n (w / 2)
 unfoldable pub spread : ℕ → List ℕ → List ℕ
 spread n [] = []
 spread n (w ∷ ws) = bitsOf n w ++ spread n ws
+
+-- the marks that words of 64 bits hold
+abbrev pub marksOf : List ℕ → List ℕ
+marksOf words = spread 64 words
+
+-- how many marks are set: their sum
+unfoldable pub sumOf : List ℕ → ℕ
+sumOf [] = 0
+sumOf (b ∷ marks) = b + sumOf marks

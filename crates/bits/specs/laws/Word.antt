@@ -1,19 +1,28 @@
--- One word of any width: a bit read, a bit set.
-use Prim.Native.Nat.{ℕ, zero, suc, _*_, _/_, _%_, _^_, _<_, max}
-use native.Mathlib.Nat.{pow-suc, le-refl, div-div-eq-div-mul, mul-comm, div-one, one-mul}
+-- One word of any width: a bit read, a bit set, the trailing ones, how many are set.
+use Prim.Native.Nat.{ℕ, zero, suc, _+_, _-_, _*_, _/_, _%_, _^_, _≤_, _<_, zero-le, max}
+use native.Mathlib.Nat.{pow-suc, le-refl, mod-lt, zero-lt-suc, div-div-eq-div-mul, mul-comm, div-one, one-mul}
 use native.Mathlib.Omega.{arith}
-use mathlib.Core.Path.{_≡_, refl, sym, ap, ap₂, _∙_}
+use mathlib.Core.Path.{_≡_, refl, sym, ap, ap₂, _∙_, subst}
 use mathlib.Core.List.{List, _∷_}
 use lib.ListN.{length, getD, set}
 use lib.Arith.{digits-div, digits-mod}
 use lib.Bits.{bitOr, or-step, or-zero-r}
 use lib.Pow.{shl-exact}
-use Rattle.bits.specs.held.Bits.{bitsOf}
+use lib.Count.{ones, ones-step, trailingZeros, trailing-le, under}
+use Rattle.whole.specs.Lists.{leastIndex}
+use Rattle.bits.specs.Lowest.{lowestBare}
+use Rattle.bits.specs.held.Bits.{bitsOf, sumOf}
 
 pub length-bits : (n w : ℕ) → length (bitsOf n w) ≡ n
 unfolding bitsOf
 length-bits zero w = refl
 length-bits (suc n) w = ap suc (length-bits n (w / 2))
+
+pub bit-small : (n w k : ℕ) → getD (bitsOf n w) k 0 ≤ 1
+unfolding bitsOf
+bit-small zero w k = zero-le
+bit-small (suc n) w zero = omega arith
+bit-small (suc n) w (suc k) = bit-small n (w / 2) k
 
 pub bits-none : (n k : ℕ) → getD (bitsOf n 0) k 0 ≡ 0
 unfolding bitsOf
@@ -55,3 +64,45 @@ bit-set (suc n) w (suc k) = ap₂ (λ (x : ℕ) (l : List ℕ). x ∷ l) low (ap
 -- a word with its bit k set: the code's `w | (1 << k)`
 pub bit-put : (n w k : ℕ) → k < n → bitsOf n (bitOr w (1 * 2 ^ k % 2 ^ n)) ≡ set (bitsOf n w) k 1
 bit-put n w k h = ap (λ (x : ℕ). bitsOf n (bitOr w x)) (shl-exact 1 k n (le-refl 2) (omega arith) ∙ one-mul (2 ^ k)) ∙ bit-set n w k
+
+-- half of a word of n + 1 digits has n
+half-small : (n w : ℕ) → w < 2 ^ suc n → w / 2 < 2 ^ n
+half-small n w h = let m : w < 2 ^ n * 2 = subst (λ (t : ℕ). w < t) (pow-suc 2 n) h in omega arith
+
+-- ---- the trailing ones are the trailing zeros of the complement: the lowest bit that is not set
+-- the lowest digit of a complement, and the rest
+not-low : (t w : ℕ) → w < t * 2 → (t * 2 - 1 - w) % 2 ≡ 1 - w % 2
+not-low t w h = omega arith
+
+not-rest : (t w : ℕ) → w < t * 2 → (t * 2 - 1 - w) / 2 ≡ t - 1 - w / 2
+not-rest t w h = omega arith
+
+pub trailing-ones : (n w : ℕ) → w < 2 ^ n → trailingZeros n (2 ^ n - 1 - w) ≡ lowestBare (bitsOf n w)
+unfolding bitsOf trailingZeros lowestBare leastIndex
+trailing-ones zero w h = refl
+trailing-ones (suc n) w h =
+    ap (λ (x : ℕ). under ((x - 1 - w) % 2) (trailingZeros n ((x - 1 - w) / 2))) (pow-suc 2 n)
+    ∙ ap₂ (λ (x y : ℕ). under x (trailingZeros n y)) (not-low (2 ^ n) w small) (not-rest (2 ^ n) w small)
+    ∙ ap (under (1 - w % 2)) (trailing-ones n (w / 2) (half-small n w h))
+    ∙ go (w % 2) (mod-lt w (zero-lt-suc 1))
+  where
+    small : w < 2 ^ n * 2
+    small = subst (λ (x : ℕ). w < x) (pow-suc 2 n) h
+
+    go : (b : ℕ) → b < 2 → under (1 - b) (lowestBare (bitsOf n (w / 2))) ≡ lowestBare (b ∷ bitsOf n (w / 2))
+    go zero l = refl
+    go (suc zero) l = refl
+    go (suc (suc b)) l = absurd (omega arith)
+
+-- a count of a machine word's bits is small
+pub count-small : (w : ℕ) → trailingZeros 64 w < 2 ^ 64
+count-small w = omega (arith, trailing-le 64 w)
+
+-- ---- how many bits are set
+pub bits-sum : (n w : ℕ) → w < 2 ^ n → ones w ≡ sumOf (bitsOf n w)
+unfolding bitsOf sumOf ones
+bits-sum zero w h = ap ones (none w h)
+  where
+    none : (w : ℕ) → w < 1 → w ≡ 0
+    none w h = omega arith
+bits-sum (suc n) w h = ones-step w ∙ ap (λ (x : ℕ). w % 2 + x) (bits-sum n (w / 2) (half-small n w h))

@@ -1,10 +1,12 @@
 -- `links::blank` meets its contract.
-use Rattle.reach.specs.laws.Blanks.{blank-zeros}
+use lib.ListN.{length-replicate}
+use Prim.Native.Nat.{ℕ}
+use Rattle.reach.specs.laws.Marks.{words-blank}
 use Rattle.links.proofs.blank.Statement.{statement}
 use Rattle.links.proofs.blank.Tie as tie
 
 returns : tie.Need-returns
-returns c = blank-zeros
+returns c = (length-replicate {A = ℕ} 16 0, words-blank 16)
 
 pub blank-spec : {M : Type 1} → statement M
 blank-spec = tie.close (tie.spec returns)

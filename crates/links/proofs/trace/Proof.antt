@@ -1,6 +1,7 @@
 -- `links::trace` meets its contract.
 use Rattle.links.proofs.Trails.{trace-floods}
 use borrow.Author.Needs.{needs}
+use Rattle.reach.specs.laws.Marks.{words-marks}
 use Rattle.links.proofs.trace.Statement.{statement}
 use Rattle.links.proofs.trace.Tie as tie
 
@@ -17,7 +18,8 @@ walks-requires : tie.Need-walks-requires
 walks-requires c κs = search needs
 
 returns : tie.Need-returns
-returns c = (c .walks .ensures .marks, λ a b. trace-floods _ _ _ _ _ (c .before .before .before .before .before .before .before .before .before .before .before .before .pre) (c .before .before .before .before .cross .ensures) (c .walks .ensures) a b)
+returns c = let s = c .before .before .before .before .before .before .before .before .before .before .before .before in
+    (c .walks .ensures .0, λ a b. trace-floods _ _ _ _ _ (words-marks 16 _ (s .pre) .size) (c .before .before .before .before .cross .ensures) (c .walks .ensures .1) a b)
 
 pub trace-spec : {M : Type 1} → statement M
 trace-spec =

@@ -1,21 +1,17 @@
--- Any two results that a public function's statement allows agree.
-use Prim.Native.Nat.{ℕ, _≤_, _<_}
-use native.Mathlib.Decide.{decLt}
-use native.Mathlib.Omega.{arith}
+-- For each public function: any two results that its statement allows are one.
+use Prim.Native.Nat.{ℕ}
+use native.Mathlib.Decide.{ℕ-discrete}
 use mathlib.Core.Path.{_≡_}
 use mathlib.Core.Logic.{by-cases}
 use mathlib.Core.List.{List}
-use lib.ListN.{length}
-use Rattle.reach.specs.held.Marking.{LowestCut}
+use lib.ListN.{getD}
+use Rattle.whole.specs.laws.Agree.{agree}
+use Rattle.reach.specs.held.Marking.{Joint}
 
--- the lowest polygon that is not reached is one
-lowest-one : (l : List ℕ) (n r r′ : ℕ) → LowestCut l n r → LowestCut l n r′ → r < r′ → ⊥
-lowest-one l n r r′ a b h = a .cut (omega (arith, b .within)) (b .before r h)
-
--- `apart`: the polygon, for as many words as the table can have
-pub apart-agree : (l : List ℕ) (n r r′ : ℕ) → length l ≤ 1024 → (length l ≤ 1024 → LowestCut l n r) → (length l ≤ 1024 → LowestCut l n r′) → r ≡ r′
-apart-agree l n r r′ h f g =
+-- `join`: the marks, and what it tells
+pub join-agree : (x y : ℕ) (m m₁ m₂ : List ℕ) (r₁ r₂ : ℕ) → Joint x y m m₁ r₁ → Joint x y m m₂ r₂ → (m₁ ≡ m₂) × (r₁ ≡ r₂)
+join-agree x y m m₁ m₂ r₁ r₂ a b =
     by-cases
-    (decLt r r′)
-    (λ lt. absurd (lowest-one l n r r′ (f h) (g h) lt))
-    (λ ge. by-cases (decLt r′ r) (λ lt. absurd (lowest-one l n r′ r (g h) (f h) lt)) (λ ge′. omega arith))
+    (ℕ-discrete (getD m x 0) (getD m y 0))
+    (λ e. (agree (a .same e .0) (b .same e .0), agree (a .same e .1) (b .same e .1)))
+    (λ n. (agree (a .other n .0) (b .other n .0), agree (a .other n .1) (b .other n .1)))

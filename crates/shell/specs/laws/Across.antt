@@ -23,7 +23,8 @@ use Rattle.edges.specs.laws.Tallies.{in-tally, in-place, place-in}
 use Rattle.edges.specs.laws.Ascending.{asc-ascending, tally-ascending, in-ascending, ascending-in}
 use Rattle.whole.specs.laws.Least.{least-as}
 use Rattle.shell.specs.held.Runs.{LeastAt, Between}
-use Rattle.reach.specs.held.Marking.{Joined, LowestCut}
+use Rattle.reach.specs.held.Marking.{Joined}
+use Rattle.apart.specs.held.Reaching.{LowestCut}
 use Rattle.shell.specs.laws.Adequate.{reach-by, edge-nil, Is, is-some, is-none, uses, once-is, often-is, apart-is, Shares, Unreached, ring-below}
 use Rattle.shell.specs.laws.Uses.{Use, words-use, use-words, step-use, use-key, use-poly, keys-all, ring-edges, in-span, span-in}
 use Rattle.shell.specs.laws.Keys.{key-at}

@@ -22,7 +22,7 @@ use Rattle.words.specs.held.Words.{keyOf, polyOf, stepOf, nextOf, dirOf}
 use Rattle.edges.specs.held.Table.{nextAt, wordsTo, ascending}
 use Rattle.shell.specs.held.Kept.{Loaded}
 use Rattle.edges.specs.laws.Tallies.{in-place, place-in}
-use Rattle.reach.specs.held.Marking.{Joined, Marked, Flooded}
+use Rattle.reach.specs.held.Marking.{Joined, Marked, Marks, Flooded}
 use Rattle.links.specs.held.Linking.{Joins, Seeds, Cut, Unlinks}
 use Rattle.words.specs.held.Words.{pick, lowOf, highOf}
 use Rattle.shell.specs.laws.Adequate.{is-some, is-none, Around, Ends, Pinched, unlinked-is, reach-by, around-even, ring-below}
@@ -154,10 +154,10 @@ module _ (es st : List ℕ) (n : ℕ) (l : Loaded es st n) where
       (j .0, j .1, ap stepOf (j .2) ∙ use-step es st n l _ (step-use es st n l p i h f t))
 
   -- what one zone of pairs, that of the smaller or that of the larger ends, has of its corners
-  record Zone (g pnt : ℕ → ℕ) : Type 0 where
-    node : (i : ℕ) → i < length table → Node (g (getD table i 0))
+  pub record Zone (g pnt : ℕ → ℕ) : Type 0 where
+    pub node : (i : ℕ) → i < length table → Node (g (getD table i 0))
     poly : (i : ℕ) → i < length table → owner st n (g (getD table i 0)) ≡ polyOf (getD table i 0)
-    point : (i : ℕ) → i < length table → getD es (g (getD table i 0)) 0 ≡ pnt (keyOf (getD table i 0))
+    pub point : (i : ℕ) → i < length table → getD es (g (getD table i 0)) 0 ≡ pnt (keyOf (getD table i 0))
     ends : (k : ℕ) → Ends (pnt k) k
 
   -- the two corners of a word
@@ -243,7 +243,7 @@ module _ (es st : List ℕ) (n : ℕ) (l : Loaded es st n) where
   side : (i : ℕ) → i < length table → Sides (getD table i 0)
   side i h = sides (getD table i 0) (place-use es st n l i h)
 
-  low-zone : Zone lowOf smaller
+  pub low-zone : Zone lowOf smaller
   low-zone = record {
     node = λ i h. pick-case Node (dirOf (getD table i 0)) (stepOf (getD table i 0)) (nextOf (getD table i 0)) (side i h .step-node) (side i h .next-node);
     poly = λ i h. pick-case (λ (x : ℕ). owner st n x ≡ polyOf (getD table i 0)) (dirOf (getD table i 0)) (stepOf (getD table i 0)) (nextOf (getD table i 0)) (side i h .step-poly) (side i h .next-poly);
@@ -251,13 +251,17 @@ module _ (es st : List ℕ) (n : ℕ) (l : Loaded es st n) where
     ends = λ k. inl refl;
   }
 
-  high-zone : Zone highOf larger
+  pub high-zone : Zone highOf larger
   high-zone = record {
     node = λ i h. pick-case Node (dirOf (getD table i 0)) (nextOf (getD table i 0)) (stepOf (getD table i 0)) (side i h .next-node) (side i h .step-node);
     poly = λ i h. pick-case (λ (x : ℕ). owner st n x ≡ polyOf (getD table i 0)) (dirOf (getD table i 0)) (nextOf (getD table i 0)) (stepOf (getD table i 0)) (side i h .next-poly) (side i h .step-poly);
     point = λ i h. side i h .high;
     ends = λ k. inr refl;
   }
+
+  -- a step ends where one starts
+  pub next-starts : (i : ℕ) → i < length table → Node (nextOf (getD table i 0))
+  next-starts i h = side i h .next-node
 
   -- a node, as the use of its step
   node-use : (e : ℕ) → Node e → (p : ℕ) × (p < n) × (getD st p 0 ≤ e) × (e + 1 < getD st (p + 1) 0)
@@ -268,6 +272,9 @@ module _ (es st : List ℕ) (n : ℕ) (l : Loaded es st n) where
 
   before : (i b : ℕ) → i + 1 < b → i < b
   before i b h = omega arith
+
+  pub node-small : (e : ℕ) → Node e → getD es e 0 < 512
+  node-small e m = let u = node-use e m in entry-small es st n l (u .0) e (u .1) (before e (getD st (u .0 + 1) 0) (u .3))
 
   node-owner : (e : ℕ) (m : Node e) → owner st n e ≡ node-use e m .0
   node-owner e m = let u = node-use e m in owned (u .0) e (u .1) (u .2) (before e (getD st (u .0 + 1) 0) (u .3))
@@ -423,16 +430,16 @@ module _ (es st : List ℕ) (n : ℕ) (l : Loaded es st n) where
       cut-at : (v e : ℕ) → Node e → getD es e 0 ≡ v → getD m′ e 0 ≡ 0 → Cut es table m′ v
       cut-at v e k q z = record { at = k .0; within = k .1; bare = rw (k .2) z; point = ap (λ (y : ℕ). getD es y 0) (k .2) ∙ q }
 
-      pinched-cut : (v : ℕ) → Pinched rs v → Cut es table m′ v
-      pinched-cut v q =
+      pinched-cut : Marks 1024 m′ → (v : ℕ) → Pinched rs v → Cut es table m′ v
+      pinched-cut b v q =
           let a = node-has v (q .here) (q .has-here) in
-          let b = node-has v (q .there) (q .has-there) in
-          by-cases (ℕ-discrete (getD m′ (a .0) 0) 0) (λ z. cut-at v (a .0) (a .1) (a .2) z) (λ nz. by-cases (ℕ-discrete (getD m′ (b .0) 0) 0) (λ z. cut-at v (b .0) (b .1) (b .2) z) (λ nz′. absurd (q .apart (rw (a .2, a .3, b .3) at (linked-around Node (λ e. getD es e 0) (owner st n) (Joins 1 2 table) (Around rs) corners (Marked m) first (s .lone) (a .0) (b .0) (a .1) (b .1) (a .2 ∙ sym (b .2)) (f .sound (a .0) (omega (arith, f .marks .bits (a .0)))) (f .sound (b .0) (omega (arith, f .marks .bits (b .0)))))))))
+          let c = node-has v (q .there) (q .has-there) in
+          by-cases (ℕ-discrete (getD m′ (a .0) 0) 0) (λ z. cut-at v (a .0) (a .1) (a .2) z) (λ nz. by-cases (ℕ-discrete (getD m′ (c .0) 0) 0) (λ z. cut-at v (c .0) (c .1) (c .2) z) (λ nz′. absurd (q .apart (rw (a .2, a .3, c .3) at (linked-around Node (λ e. getD es e 0) (owner st n) (Joins 1 2 table) (Around rs) corners (Marked m) first (s .lone) (a .0) (c .0) (a .1) (c .1) (a .2 ∙ sym (c .2)) (f .sound (a .0) (omega (arith, b .bits (a .0)))) (f .sound (c .0) (omega (arith, b .bits (c .0)))))))))
 
     -- 0C
     module _ (r : ℕ) (u : Unlinks es table r) where
       pub unlinked-found : r < 65536 → notLinked rs ≡ some r
-      unlinked-found h = is-some (unlinked-is rs) (least-as (cut-pinched (u .from) (u .to) (u .seeds) (u .flood)) (pinched-cut (u .from) (u .to) (u .seeds) (u .flood)) (u .least .found h))
+      unlinked-found h = is-some (unlinked-is rs) (least-as (cut-pinched (u .from) (u .to) (u .seeds) (u .flood)) (pinched-cut (u .from) (u .to) (u .seeds) (u .flood) (u .marks)) (u .least .found h))
 
       pub unlinked-missing : 65536 ≤ r → notLinked rs ≡ none
-      unlinked-missing h = is-none (unlinked-is rs) (λ v p. u .least .missing h v (pinched-cut (u .from) (u .to) (u .seeds) (u .flood) v p))
+      unlinked-missing h = is-none (unlinked-is rs) (λ v p. u .least .missing h v (pinched-cut (u .from) (u .to) (u .seeds) (u .flood) (u .marks) v p))

@@ -5,7 +5,7 @@ use mathlib.Core.Path.{_≡_, refl, sym, ap, subst, _∙_}
 use mathlib.Core.Logic.{_⊎_, ⊎-elim}
 use Rattle.reach.specs.Reach.{Reach, start, step}
 use Rattle.shell.specs.laws.Adequate.{reach-trans, reach-sym}
-use Rattle.reach.specs.laws.Sweeps.{reach-map}
+use Rattle.reach.specs.laws.Joins.{reach-map}
 
 -- what the corners of rings are to their links
 pub record Corners (N : ℕ → Type 0) (pt pl : ℕ → ℕ) (L : ℕ → ℕ → Type 0) (A : ℕ → ℕ → ℕ → Type 0) : Type 1 where

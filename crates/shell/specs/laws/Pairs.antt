@@ -1,5 +1,5 @@
 -- Where each edge is used twice, the words of the table stand in pairs.
-use Prim.Native.Nat.{ℕ, zero, suc, _+_, _%_, _≤_, _<_}
+use Prim.Native.Nat.{ℕ, zero, suc, _+_, _%_, _≤_, _<_, suc-le-suc}
 use native.Mathlib.Nat.{le-of-suc-le-suc, not-suc-le-zero}
 use native.Mathlib.Decide.{ℕ-discrete}
 use native.Mathlib.Omega.{arith}
@@ -80,18 +80,25 @@ pairs (w ∷ v ∷ l) a h = by-cases (ℕ-discrete (keyOf v) (keyOf w)) (λ e. t
         rest : (x : ℕ) → In x l → tally (ofEdge (keyOf x)) l ≡ 2
         rest x i = omega (arith, h x (inr (inr i)), two (keyOf x), no-of (keyOf x) w (apart x i), no-of (keyOf x) v (λ q. apart x i (sym e ∙ q)))
 
--- the two at an even place and the next are of one edge
+one-odd : 1 % 2 ≡ 0 → ⊥
+one-odd e = omega arith
+
+even-before : (i : ℕ) → suc (suc i) % 2 ≡ 0 → i % 2 ≡ 0
+even-before i e = omega arith
+
+-- a word at an even place has a next one
+pub pairs-next : {l : List ℕ} → Pairs l → (i : ℕ) → i % 2 ≡ 0 → i < length l → suc i < length l
+pairs-next empty i e h = absurd (not-suc-le-zero h)
+pairs-next (pair q a p) zero e h = omega arith
+pairs-next (pair q a p) (suc zero) e h = absurd (one-odd e)
+pairs-next (pair q a p) (suc (suc i)) e h = suc-le-suc (suc-le-suc (pairs-next p i (even-before i e) (le-of-suc-le-suc (le-of-suc-le-suc h))))
+
+-- the two are of one edge
 pub pairs-even : {l : List ℕ} → Pairs l → (i : ℕ) → i % 2 ≡ 0 → suc i < length l → keyOf (getD l i 0) ≡ keyOf (getD l (suc i) 0)
 pairs-even empty i e h = absurd (not-suc-le-zero h)
 pairs-even (pair q a p) zero e h = q
-pairs-even (pair q a p) (suc zero) e h = absurd (odd e)
-  where
-    odd : 1 % 2 ≡ 0 → ⊥
-    odd e = omega arith
-pairs-even (pair q a p) (suc (suc i)) e h = pairs-even p i (even i e) (le-of-suc-le-suc (le-of-suc-le-suc h))
-  where
-    even : (i : ℕ) → suc (suc i) % 2 ≡ 0 → i % 2 ≡ 0
-    even i e = omega arith
+pairs-even (pair q a p) (suc zero) e h = absurd (one-odd e)
+pairs-even (pair q a p) (suc (suc i)) e h = pairs-even p i (even-before i e) (le-of-suc-le-suc (le-of-suc-le-suc h))
 
 -- two words of one edge are such two
 pub pairs-same : {l : List ℕ} → Pairs l → (i j : ℕ) → i < j → j < length l → keyOf (getD l i 0) ≡ keyOf (getD l j 0) → (i % 2 ≡ 0) × (j ≡ suc i)

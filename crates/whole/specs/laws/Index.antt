@@ -1,7 +1,7 @@
 -- The least index of a list at which a test holds: a loop that looks for it, what it says, and two of a list that are related.
 use Prim.Native.Nat.{ℕ, zero, suc, _+_, _≤_, _<_, suc-le-suc}
 use native.Mathlib.Omega.{arith}
-use native.Mathlib.Nat.{le-of-suc-le-suc}
+use native.Mathlib.Nat.{le-of-suc-le-suc, zero-add}
 use native.Mathlib.Numerals.{add-one}
 use mathlib.Core.Path.{_≡_, refl, sym, ap, ap₂, _∙_}
 use mathlib.Core.Bool.{Bool, true, false, _||_, true≢false}
@@ -32,6 +32,28 @@ module _ {A : Type 0} (t : A → Bool) where
   pub index-end : (l : List A) (i : ℕ) → i ≡ length l → leastIndex t (drop i l) ≡ 0
   unfolding leastIndex
   index-end l i e = ap (leastIndex t) (drop-end l i e)
+
+  -- ---- of two lists one after the other: it is the first one's where the test holds of some there, else the second one's, counted on
+  index-first : (x : A) (l : List A) (b : Bool) → t x ≡ b → elim b [ true ↦ 0 | false ↦ suc (leastIndex t l) ] ≡ leastIndex t (x ∷ l)
+  index-first x l b e = sym (index-of x l b e)
+
+  pub index-past : (a l : List A) → leastIndex t a ≡ length a → leastIndex t (a ++ l) ≡ length a + leastIndex t l
+  unfolding leastIndex
+  index-past [] l e = sym (zero-add (leastIndex t l))
+  index-past (x ∷ a) l e = go (t x) refl (index-past a l)
+    where
+      go : (b : Bool) → t x ≡ b → (leastIndex t a ≡ length a → leastIndex t (a ++ l) ≡ length a + leastIndex t l) → leastIndex t (x ∷ a ++ l) ≡ suc (length a) + leastIndex t l
+      go true q ih = absurd (omega (arith, sym (index-of x a true q) ∙ e))
+      go false q ih = index-of x (a ++ l) false q ∙ (let h = ih (omega (arith, sym (index-of x a false q) ∙ e)) in omega arith)
+
+  pub index-within : (a l : List A) → leastIndex t a < length a → leastIndex t (a ++ l) ≡ leastIndex t a
+  unfolding leastIndex
+  index-within [] l h = absurd (omega arith)
+  index-within (x ∷ a) l h = go (t x) refl (index-within a l)
+    where
+      go : (b : Bool) → t x ≡ b → (leastIndex t a < length a → leastIndex t (a ++ l) ≡ leastIndex t a) → leastIndex t (x ∷ a ++ l) ≡ leastIndex t (x ∷ a)
+      go true q ih = index-of x (a ++ l) true q ∙ index-first x a true q
+      go false q ih = index-of x (a ++ l) false q ∙ ap suc (ih (omega (arith, sym (index-of x a false q), h))) ∙ index-first x a false q
 
   -- ---- it is below the length exactly where the test holds of some
   pub any-index : (l : List A) → any t l ≡ ltb (leastIndex t l) (length l)

@@ -1,4 +1,0 @@
--- Lemmas on plain values that several proofs of this crate use.
-pub mod Chains
-pub mod Lowest
-pub mod Queues
