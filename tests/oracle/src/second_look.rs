@@ -368,6 +368,21 @@ fn joined(tables: &Tables, point: Option<usize>) -> Union {
     union
 }
 
+/// Asserts that 0B and 0C name what the joined sets tell; gives whether each fails.
+fn assert_joined(tables: &Tables) -> [bool; 2] {
+    let union = joined(tables, None);
+    let apart = (0..tables.polygons.len()).find(|&polygon| union.root(polygon) != union.root(0));
+    assert_eq!(fails_0b(tables).map(|failure| failure.1), apart);
+    let pinched = (0..tables.points.len()).find(|&point| {
+        let union = joined(tables, Some(point));
+        let there = (0..tables.polygons.len()).filter(|&polygon| tables.polygons[polygon].contains(&point));
+        let roots: Vec<usize> = there.map(|polygon| union.root(polygon)).collect();
+        roots.iter().any(|&root| root != roots[0])
+    });
+    assert_eq!(fails_0c(tables).map(|failure| failure.1), pinched);
+    [apart.is_some(), pinched.is_some()]
+}
+
 #[test]
 fn reachability_by_joined_sets() {
     let mut dice = Dice(5);
@@ -381,20 +396,49 @@ fn reachability_by_joined_sets() {
                 ring
             })
             .collect();
-        let tables = Tables { tolerance: 0, points: vec![ORIGIN; points as usize], polygons };
-        let union = joined(&tables, None);
-        let apart = (0..tables.polygons.len()).find(|&polygon| union.root(polygon) != union.root(0));
-        assert_eq!(fails_0b(&tables).map(|failure| failure.1), apart);
-        let pinched = (0..points as usize).find(|&point| {
-            let union = joined(&tables, Some(point));
-            let there = (0..tables.polygons.len()).filter(|&polygon| tables.polygons[polygon].contains(&point));
-            let roots: Vec<usize> = there.map(|polygon| union.root(polygon)).collect();
-            roots.iter().any(|&root| root != roots[0])
-        });
-        assert_eq!(fails_0c(&tables).map(|failure| failure.1), pinched);
-        seen[usize::from(apart.is_some()) * 2 + usize::from(pinched.is_some())] += 1;
+        let [apart, pinched] = assert_joined(&Tables { tolerance: 0, points: vec![ORIGIN; points as usize], polygons });
+        seen[usize::from(apart) * 2 + usize::from(pinched)] += 1;
     }
     assert!(seen.iter().all(|&count| count > 100), "{seen:?}");
+}
+
+/// The boundary of a row of tetrahedra over points in a row, each four in turn: 2 * points - 4 triangles.
+fn row_of_triangles(first: usize, points: usize) -> Vec<Vec<usize>> {
+    let mut rings = vec![vec![0, 2, 1, 0], vec![points - 3, points - 2, points - 1, points - 3]];
+    rings.extend((0..points - 3).flat_map(|k| [vec![k, k + 1, k + 3, k], vec![k + 2, k, k + 3, k + 2]]));
+    rings.iter_mut().flatten().for_each(|entry| *entry += first);
+    rings
+}
+
+/// A list in another order, by chance.
+fn shuffled<T>(dice: &mut Dice, mut list: Vec<T>) -> Vec<T> {
+    (1..list.len()).rev().for_each(|k| list.swap(k, dice.below(k as u64 + 1) as usize));
+    list
+}
+
+#[test]
+fn reachability_of_many_polygons_by_joined_sets() {
+    let mut dice = Dice(11);
+    let mut seen = [0; 4];
+    for _ in 0..120 {
+        // One to three closed rows, now and then two points of them made one, all numbered by chance.
+        let (mut points, mut polygons) = (0, vec![]);
+        for _ in 0..1 + dice.below(3) {
+            let more = 4 + dice.below(39) as usize;
+            polygons.extend(row_of_triangles(points, more));
+            points += more;
+        }
+        let mut numbers = shuffled(&mut dice, (0..points).collect());
+        for _ in 0..dice.below(3) {
+            let (kept, gone) = (dice.below(points as u64) as usize, dice.below(points as u64) as usize);
+            numbers[gone] = numbers[kept];
+        }
+        polygons.iter_mut().flatten().for_each(|entry: &mut usize| *entry = numbers[*entry]);
+        let polygons = shuffled(&mut dice, polygons);
+        let [apart, pinched] = assert_joined(&Tables { tolerance: 0, points: vec![ORIGIN; points], polygons });
+        seen[usize::from(apart) * 2 + usize::from(pinched)] += 1;
+    }
+    assert!(seen.iter().all(|&count| count > 5), "{seen:?}");
 }
 
 #[test]

@@ -10,6 +10,9 @@ use crate::solids::{self, closed, Solid, P};
 use oracle::ring::fails_06;
 use oracle::tables::Place;
 
+#[path = "reached.rs"]
+pub mod reached;
+
 /// A family: its name, its share, and how one of its streams is written.
 pub struct Family {
     pub name: &'static str,
@@ -23,6 +26,7 @@ pub const FAMILIES: &[Family] = &[
     Family { name: "shape faults", share: 5, write: shape_faults },
     Family { name: "cells and pinches", share: 3, write: cells_and_pinches },
     Family { name: "two solids", share: 3, write: two_solids },
+    Family { name: "polygons and corners reached", share: 1, write: reached::stream },
     Family { name: "few polygons", share: 2, write: few_polygons },
     Family { name: "rings on a small grid", share: 4, write: grid_rings },
     Family { name: "rings of repeated numbers", share: 1, write: repeats::stream },

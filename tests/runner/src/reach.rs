@@ -11,6 +11,9 @@ use oracle::stream::lines;
 use oracle::tables::{Place, Tables, ORIGIN};
 use std::collections::{BTreeMap, BTreeSet};
 
+#[path = "reach_marks.rs"]
+mod reach_marks;
+
 #[derive(Default)]
 pub struct Reach {
     counts: BTreeMap<String, u64>,
@@ -153,6 +156,7 @@ fn required() -> Vec<String> {
     names.extend(["-1 before -2", "-1 before -3", "-2 before -3", "all three"].map(|name| format!("whole stream {name}")));
     names.extend([BOUNDS, RINGS, repeats::NAMES, DISTANCES, HISTORIES].concat().iter().map(|name| name.to_string()));
     names.extend(reach_positions::names());
+    names.extend(reach_marks::names());
     names
 }
 
@@ -248,8 +252,11 @@ impl Reach {
     }
 
     fn bounds(&mut self, state: &State, frame: &Frame, rows: &[u8]) {
-        let tables = state.tables();
-        let (points, polygons, entries) = (tables.points.len(), tables.polygons.len(), tables.entries());
+        // What is loaded matters while a load is running; else neither row 04 nor an acceptance is there.
+        let (points, polygons, entries) = match state {
+            State::Loading(tables) => (tables.points.len(), tables.polygons.len(), tables.entries()),
+            _ => (0, 0, 0),
+        };
         let (accepted, full) = (rows.is_empty(), rows.first() == Some(&4));
         match frame {
             Frame::Begin { tolerance } => {
@@ -289,6 +296,7 @@ impl Reach {
     fn report(&mut self, tables: &Tables, given: Told) {
         self.size("six-volume", given.six_volume);
         self.count(format!("check {:02X} reported", given.check));
+        self.count_all(reach_marks::of_report(tables, given.check, given.a));
         if given.check == 0 {
             return;
         }
@@ -440,7 +448,6 @@ impl Reach {
     /// What shows only over several frames.
     fn past(&mut self, past: &mut Past, before: &State, after: &State, frame: &Frame, answer: &str) {
         let accepted = answer.starts_with("00");
-        let (old, new) = (before.tables(), after.tables());
         if let Frame::Begin { .. } = frame {
             match (before, accepted) {
                 (State::Held { .. }, true) => self.count("begin while held"),
@@ -466,8 +473,8 @@ impl Reach {
                 self.count_if(past.refused.iter().any(|each| each < number) && answer == "07", "a late number above a refused one");
                 past.refused.insert(*number);
             }
+            self.corrected(past, &before.tables(), &after.tables(), frame, answer);
         }
-        self.corrected(past, &old, &new, frame, answer);
     }
 
     /// What a move or a turn did.
