@@ -1,6 +1,6 @@
-// Times the checker beside the baselines on ten buildings and on rings that fail, in one run, whole and by stages, and measures the
-// stack. No time is printed unless all agree on every answer byte of every stream that is timed. Usage: bench NAME [samples], NAME of
-// what is linked.
+// Times the checker beside the baselines on ten buildings, on rings that fail and on loads numbered at random, in one run, whole and
+// by stages, and measures the stack. No time is printed unless all agree on every answer byte of every stream that is timed. Usage:
+// bench NAME [samples], NAME of what is linked.
 // The AVX-512 baseline takes part where it is built in (WITH_AVX512): it is timed on loads alone, since it keeps nothing.
 #include "baselines.h"
 #include "framecheck.h"
@@ -273,7 +273,7 @@ void machine() {
 int main(int argc, char **argv) {
     const char *linked = argc > 1 ? argv[1] : "checker";
     const int samples = argc > 2 ? std::max(3, std::atoi(argv[2])) : 301;
-    std::vector<Case> loads, corrected, late, turned, balls, roofs, towers, thin, every;
+    std::vector<Case> loads, corrected, late, turned, numbered, balls, roofs, towers, thin, every;
     std::vector<Stages> by_stage;
     for (const auto &m : streams::ten_buildings()) {
         by_stage.push_back(make_stages(m));
@@ -285,13 +285,14 @@ int main(int argc, char **argv) {
         late.push_back(make_case(m, false));
         turned.push_back(make_case(m, streams::with_turns(m)));
     }
+    for (const auto &m : streams::numbered_at_random()) numbered.push_back(make_case(m, false));
     for (const auto &[rings, around] : {std::pair{1, 8}, std::pair{2, 8}, std::pair{4, 8}, std::pair{4, 16}, std::pair{8, 16}})
         balls.push_back(make_case(streams::ball("ball", rings, around), false));
     for (int n : {4, 8, 16, 32, 64, 127})
         roofs.push_back(make_case(streams::prism(std::to_string(n) + "-corner roof", streams::star(n, 30000, 50000), 9000), false));
     for (int storeys : {12, 25, 50}) towers.push_back(make_case(streams::tower(std::to_string(storeys) + "-storey tower", storeys), false));
     for (int n : {4, 5, 8, 40, 127}) thin.push_back(make_case(streams::thin_rings("rings of " + std::to_string(n), n), false));
-    for (const auto *some : {&loads, &corrected, &late, &turned, &balls, &roofs, &towers, &thin})
+    for (const auto *some : {&loads, &corrected, &late, &turned, &numbered, &balls, &roofs, &towers, &thin})
         every.insert(every.end(), some->begin(), some->end());
     for (const auto &c : every) must_agree(c);
 
@@ -301,6 +302,7 @@ int main(int argc, char **argv) {
     table("loads with 50 moves, 50 turns and 200 questions", linked, corrected, samples, false);
     table("loads of eight rings of 127 that fail at a late position", linked, late, samples, true);
     table("the same with 100 turns and 100 questions", linked, turned, samples, false);
+    table("loads numbered at random (two balls: report 0B)", linked, numbered, samples, true);
     stages(linked, by_stage, samples);
     growth("growth with polygons (balls of triangles)", linked, balls, samples);
     growth("growth with the corners of one roof (prisms)", linked, roofs, samples);

@@ -1,5 +1,5 @@
-// Buildings and streams for the benchmark, the tests and the fuzz seeds: the ten buildings that are timed, and a generator of
-// random and damaged streams from a number.
+// Buildings and streams for the benchmark, the tests and the fuzz seeds: the ten buildings that are timed, some that are numbered at
+// random, and a generator of random and damaged streams from a number.
 #ifndef FRAMECHECK_STREAMS_HPP
 #define FRAMECHECK_STREAMS_HPP
 
@@ -339,6 +339,57 @@ class Random {
     std::uint64_t state;
 };
 
+template <typename T> void shuffle(std::vector<T> &list, Random &r) {
+    for (std::size_t i = list.size(); i > 1; i--) std::swap(list[i - 1], list[static_cast<std::size_t>(r.below(static_cast<int>(i)))]);
+}
+
+// The same building with its points and polygons numbered at random.
+inline Model renumbered(Model m, Random &r) {
+    std::vector<std::size_t> order(m.points.size());
+    for (std::size_t k = 0; k < order.size(); k++) order[k] = k;
+    shuffle(order, r);
+    std::vector<int> number(order.size());
+    std::vector<Place> points;
+    for (std::size_t k = 0; k < order.size(); k++) {
+        number[order[k]] = static_cast<int>(k);
+        points.push_back(m.points[order[k]]);
+    }
+    for (auto &ring : m.rings)
+        for (int &entry : ring)
+            if (static_cast<std::size_t>(entry) < number.size()) entry = number[static_cast<std::size_t>(entry)];
+    m.points = std::move(points);
+    shuffle(m.rings, r);
+    return m;
+}
+
+// Both in one building, the second 50 m further along x: 0B names the second one's first polygon.
+inline Model beside(std::string name, Model m, const Model &other) {
+    m.name = std::move(name);
+    const int before = static_cast<int>(m.points.size());
+    for (const auto &p : other.points) m.points.push_back({p[0] + 50000, p[1], p[2]});
+    for (Ring ring : other.rings) {
+        for (int &entry : ring) entry += before;
+        m.rings.push_back(ring);
+    }
+    return m;
+}
+
+// Two balls of 128 triangles in one building.
+inline Model two_balls() { return beside("two balls", ball("", 4, 16), ball("", 4, 16)); }
+
+// Loads in which what is across an edge is anywhere in the tables, so that 0B and 0C have no order to go by; the last two are in
+// pieces, one of them in order.
+inline std::vector<Model> numbered_at_random() {
+    Random r(1);
+    std::vector<Model> all;
+    for (const auto &m : {ball("ball, 256 triangles", 8, 16), prism("127-gon prism", star(127, 50000, 50000), 9000, 44),
+                          tower("40-storey tower", 40), two_balls()})
+        all.push_back(renumbered(m, r));
+    all.push_back(two_balls());
+    all.back().name += ", in order";
+    return all;
+}
+
 // The surface of a random heap of cubes: closed, and often pinched at an edge (09) or a point (0C), or in pieces (0B).
 inline Model cubes(Random &r) {
     Model m{"cubes", r.below(20), {}, {}};
@@ -501,7 +552,11 @@ inline Model brim(Random &r) {
 
 inline Model any_model(Random &r) {
     if (r.one_in(25)) return brim(r);
-    switch (r.below(13)) {
+    switch (r.below(14)) {
+    case 13: {
+        const int rings = r.from_to(1, 4), around = r.from_to(3, 8), storeys = r.from_to(1, 20);
+        return beside("two solids", ball("", rings, around), tower("", storeys));
+    }
     case 10: return horseshoe(r);
     case 11: return saddles(r);
     case 12: {
@@ -608,6 +663,7 @@ inline std::string any_stream(std::uint64_t seed) {
     const int loads = r.one_in(5) ? r.from_to(2, 3) : 1;
     for (int l = 0; l < loads; l++) {
         Model m = any_model(r);
+        if (r.one_in(4)) m = renumbered(m, r);
         disturb(m, r);
         if (r.one_in(3)) m.tolerance = r.one_in(4) ? r.from_to(999, 1001) : r.below(60);
         std::string now = load(m);
