@@ -85,10 +85,12 @@ fn of_0b(edges: &Edges, polygons: usize, named: usize) -> Vec<String> {
         (lower_place(&missing), "0B, a polygon of a later word has a lower place in it"),
         ((0..named).any(|polygon| !after_two.contains(&polygon)), "0B, after two sweeps another would be named"),
     ]);
-    names.push(format!("0B names polygon {named}"));
-    names.push(format!("0B of {polygons} polygons"));
-    names.retain(|name| !name.starts_with("0B names") || NUMBERS.contains(&named));
-    names.retain(|name| !name.starts_with("0B of") || COUNTS.contains(&polygons));
+    if NUMBERS.contains(&named) {
+        names.push(format!("0B names polygon {named}"));
+    }
+    if COUNTS.contains(&polygons) {
+        names.push(format!("0B of {polygons} polygons"));
+    }
     names
 }
 
