@@ -4,14 +4,12 @@ use crate::distance::{self, Twice};
 use crate::faults::{pinch, ring_fault, shape_fault};
 use crate::positions;
 use crate::prng::Dice;
+use crate::reached;
 use crate::repeats;
 use crate::script::{Asking, Script};
 use crate::solids::{self, closed, Solid, P};
 use oracle::ring::fails_06;
 use oracle::tables::Place;
-
-#[path = "reached.rs"]
-pub mod reached;
 
 /// A family: its name, its share, and how one of its streams is written.
 pub struct Family {

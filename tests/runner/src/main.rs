@@ -8,7 +8,9 @@ mod positions;
 mod prng;
 mod product;
 mod reach;
+mod reach_marks;
 mod reach_positions;
+mod reached;
 mod repeats;
 mod script;
 #[cfg(not(product))]

@@ -1,5 +1,6 @@
 //! How often each thing was reached that the streams are meant to reach, by the oracle's account; what must be reached is listed.
 
+use crate::reach_marks;
 use crate::reach_positions;
 use crate::repeats;
 use oracle::frame::{decode, Frame};
@@ -10,9 +11,6 @@ use oracle::shape;
 use oracle::stream::lines;
 use oracle::tables::{Place, Tables, ORIGIN};
 use std::collections::{BTreeMap, BTreeSet};
-
-#[path = "reach_marks.rs"]
-mod reach_marks;
 
 #[derive(Default)]
 pub struct Reach {

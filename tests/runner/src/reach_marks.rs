@@ -1,7 +1,7 @@
 //! What must be reached of the marks of 0B and 0C: polygons and points whose marks are at the ends of words of 64, what a program would
 //! tell that takes one mark for another, and what a sweep over the edges leaves unmarked. By the oracle's account.
 
-use crate::families::reached::{COUNTS, NUMBERS};
+use crate::reached::{COUNTS, NUMBERS};
 use oracle::shape::{self, Edge, Use};
 use oracle::tables::Tables;
 use std::collections::{BTreeMap, BTreeSet};
