@@ -1,4 +1,4 @@
--- The tables of corners across from corners: what one word writes, and that all words together write what the pairs join.
+-- The tables of corners across from corners: what a word writes, and a pair, and that all pairs together write what they join.
 use Prim.Native.Nat.{ℕ, _+_, _/_, _%_, _≤_, _<_}
 use native.Mathlib.Decide.{ℕ-discrete, decLt}
 use native.Mathlib.Nat.{not-suc-le-zero}
@@ -13,7 +13,7 @@ use Rattle.links.specs.held.Linking.{Joins, Nodes, Selves, Links, Lone, 
 use Rattle.reach.specs.laws.Marks.{at-set}
 use Rattle.words.specs.laws.Mates.{mate-up, mate-down, mate-one}
 use Rattle.reach.specs.laws.Joined.{mate-joined}
-use Rattle.links.proofs.Ends.{End, outEnd, innEnd, step-node, next-node, out-end, inn-end, side}
+use Rattle.links.proofs.Ends.{End, outEnd, innEnd, step-node, next-node, out-end, inn-end, side, node-small}
 use Rattle.links.proofs.Corners.{joins-at}
 
 -- one more entry of a table of its own places
@@ -98,6 +98,23 @@ module _ (g : ℕ → ℕ) (f : ℕ → ℕ → ℕ) (l t : List ℕ) (i k : ℕ
     whole = λ o j k′ lt hj b. kept o j k′ lt hj b (after (g (getD l j 0)));
   }
 
+-- both words of a pair
+module _ (g : ℕ → ℕ) (f : ℕ → ℕ → ℕ) (l t : List ℕ) (i : ℕ) (s : Noting g f l t i) (even : i % 2 ≡ 0) (h : i + 1 < length l) (gs : (w : ℕ) → g w < 1024) (fs : (v w : ℕ) → f v w < 1024) where
+  abbrev v : ℕ
+  v = getD l i 0
+
+  abbrev w : ℕ
+  w = getD l (i + 1) 0
+
+  first-noted : Noting g f l (set t (g v) (f v w)) (i + 1)
+  first-noted = note-more g f l t i (i + 1) s (omega arith) (mate-up (length l) i even h) (g v) (f v w) refl refl (gs v) (fs v w)
+
+  pub note-pair : Noting g f l (set (set t (g v) (f v w)) (g w) (f w v)) (i + 2)
+  note-pair = subst (λ (k : ℕ). Noting g f l (set (set t (g v) (f v w)) (g w) (f w v)) k) (two i) (note-more g f l (set t (g v) (f v w)) (i + 1) i first-noted h (mate-down (length l) i even h) (g w) (f w v) refl refl (gs w) (fs w v))
+    where
+      two : (n : ℕ) → n + 1 + 1 ≡ n + 2
+      two n = omega arith
+
 -- ---- both tables
 
 -- the corner of w at the end at which the step of v starts, and the one at the other end
@@ -107,30 +124,43 @@ outOf v w = nodeOf (outEnd v) w
 abbrev pub innOf : ℕ → ℕ → ℕ
 innOf v w = nodeOf (innEnd v) w
 
+module _ (l t : List ℕ) (i : ℕ) (even : i % 2 ≡ 0) (h : i + 1 < length l) where
+  pub out-pair : Noting stepOf outOf l t i → Noting stepOf outOf l (set (set t (stepOf (getD l i 0)) (outOf (getD l i 0) (getD l (i + 1) 0))) (stepOf (getD l (i + 1) 0)) (outOf (getD l (i + 1) 0) (getD l i 0))) (i + 2)
+  out-pair s = note-pair stepOf outOf l t i s even h (λ w. omega arith) (λ v w. node-small (outEnd v) w (out-end v))
+
+  pub inn-pair : Noting nextOf innOf l t i → Noting nextOf innOf l (set (set t (nextOf (getD l i 0)) (innOf (getD l i 0) (getD l (i + 1) 0))) (nextOf (getD l (i + 1) 0)) (innOf (getD l (i + 1) 0) (getD l i 0))) (i + 2)
+  inn-pair s = note-pair nextOf innOf l t i s even h (λ w. omega arith) (λ v w. node-small (innEnd v) w (inn-end v))
+
 module _ (l : List ℕ) where
   -- what a word writes is joined
   noted-joins : (h p q i k : ℕ) → i < length l → Mate (length l) i k → End h → nodeOf h (getD l i 0) ≡ p → nodeOf h (getD l k 0) ≡ q → (p ≡ q) ⊎ Joins 1 2 l p q
   noted-joins h p q i k lt m z a b = ⊎-elim (λ (e : i ≡ k). inl (sym a ∙ (ap (λ (x : ℕ). nodeOf h (getD l x 0)) e ∙ b))) (λ (j : Joined l (nodeOf h) (nodeOf h (getD l i 0)) (nodeOf h (getD l k 0))). inr (joins-at l h p q z (rw (a, b) at j))) (mate-joined l (nodeOf h) i k lt m)
 
-  module _ (out inn : List ℕ) (i : ℕ) (a : Noting stepOf outOf l out i) (b : Noting nextOf innOf l inn i) (ge : length l ≤ i) where
+  module _ (out inn : List ℕ) (i : ℕ) (a : Noting stepOf outOf l out i) (b : Noting nextOf innOf l inn i) (even : i % 2 ≡ 0) (ge : length l ≤ i + 1) where
     sound : (p q : ℕ) → p < 1024 → Links out inn p q → (p ≡ q) ⊎ Joins 1 2 l p q
     sound p q h (inl e) = ⊎-elim (λ (z : p ≡ q). inl z) (λ (w : Noted stepOf outOf l p q). let v = getD l (w .at) 0 in noted-joins (outEnd v) p q (w .at) (w .to) (w .within) (w .mate) (out-end v) (sym (step-node v) ∙ w .from) (w .ends)) (a .sound p q h e)
     sound p q h (inr e) = ⊎-elim (λ (z : p ≡ q). inl z) (λ (w : Noted nextOf innOf l p q). let v = getD l (w .at) 0 in noted-joins (innEnd v) p q (w .at) (w .to) (w .within) (w .mate) (inn-end v) (sym (next-node v) ∙ w .from) (w .ends)) (b .sound p q h e)
 
     module _ (f : Lone stepOf l) (g : Lone nextOf l) where
-      across : (h j k : ℕ) → j < length l → Mate (length l) j k → End h → Links out inn (nodeOf h (getD l j 0)) (nodeOf h (getD l k 0))
-      across h j k lt m z = go (side h (getD l j 0) z)
+      across : (h j k : ℕ) → j < i → j < length l → Mate (length l) j k → End h → Links out inn (nodeOf h (getD l j 0)) (nodeOf h (getD l k 0))
+      across h j k before lt m z = go (side h (getD l j 0) z)
         where
           go : (h ≡ outEnd (getD l j 0)) ⊎ (h ≡ innEnd (getD l j 0)) → Links out inn (nodeOf h (getD l j 0)) (nodeOf h (getD l k 0))
-          go (inl e) = inl (ap (λ (x : ℕ). getD out x 0) (ap (λ (x : ℕ). nodeOf x (getD l j 0)) e ∙ sym (step-node (getD l j 0))) ∙ (a .whole f j k (omega arith) lt m ∙ ap (λ (x : ℕ). nodeOf x (getD l k 0)) (sym e)))
-          go (inr e) = inr (ap (λ (x : ℕ). getD inn x 0) (ap (λ (x : ℕ). nodeOf x (getD l j 0)) e ∙ sym (next-node (getD l j 0))) ∙ (b .whole g j k (omega arith) lt m ∙ ap (λ (x : ℕ). nodeOf x (getD l k 0)) (sym e)))
+          go (inl e) = inl (ap (λ (x : ℕ). getD out x 0) (ap (λ (x : ℕ). nodeOf x (getD l j 0)) e ∙ sym (step-node (getD l j 0))) ∙ (a .whole f j k before lt m ∙ ap (λ (x : ℕ). nodeOf x (getD l k 0)) (sym e)))
+          go (inr e) = inr (ap (λ (x : ℕ). getD inn x 0) (ap (λ (x : ℕ). nodeOf x (getD l j 0)) e ∙ sym (next-node (getD l j 0))) ∙ (b .whole g j k before lt m ∙ ap (λ (x : ℕ). nodeOf x (getD l k 0)) (sym e)))
 
       joined-links : (h p q : ℕ) → End h → Joined l (nodeOf h) p q → Links out inn p q
       joined-links h p q s j = go (j .ends)
         where
+          second : (n : ℕ) → n % 2 ≡ 0 → n + 1 < length l → n + 1 < i
+          second n e h = omega arith
+
+          first : (n : ℕ) → n + 1 < i → n < i
+          first n h = omega arith
+
           go : ((nodeOf h (getD l (j .at) 0) ≡ p) × (nodeOf h (getD l (j .at + 1) 0) ≡ q)) ⊎ ((nodeOf h (getD l (j .at + 1) 0) ≡ p) × (nodeOf h (getD l (j .at) 0) ≡ q)) → Links out inn p q
-          go (inl w) = rw (w .0, w .1) at (across h (j .at) (j .at + 1) (omega (arith, j .within)) (mate-up (length l) (j .at) (j .even) (j .within)) s)
-          go (inr w) = rw (w .0, w .1) at (across h (j .at + 1) (j .at) (j .within) (mate-down (length l) (j .at) (j .even) (j .within)) s)
+          go (inl w) = rw (w .0, w .1) at (across h (j .at) (j .at + 1) (first (j .at) (second (j .at) (j .even) (j .within))) (omega (arith, j .within)) (mate-up (length l) (j .at) (j .even) (j .within)) s)
+          go (inr w) = rw (w .0, w .1) at (across h (j .at + 1) (j .at) (second (j .at) (j .even) (j .within)) (j .within) (mate-down (length l) (j .at) (j .even) (j .within)) s)
 
       whole : (p q : ℕ) → Joins 1 2 l p q → Links out inn p q
       whole p q (inl j) = joined-links 1 p q (inl refl) j

@@ -2,7 +2,7 @@
 use Prim.Native.Nat.{ℕ, zero, suc, _+_, _-_, _<_}
 use native.Mathlib.Decide.{ℕ-discrete}
 use native.Mathlib.Omega.{arith}
-use mathlib.Core.Path.{_≡_, refl, sym, ap, _∙_}
+use mathlib.Core.Path.{_≡_, refl, sym, ap, subst, _∙_}
 use mathlib.Core.Logic.{_⊎_, inl, inr, by-cases}
 use Rattle.words.specs.held.Words.{stepOf, nextOf, dirOf, nodeOf}
 use Rattle.words.specs.laws.Nodes.{pick-then, pick-else}
@@ -50,3 +50,17 @@ node-either h v z = go (side h v z)
     go : (h ≡ outEnd v) ⊎ (h ≡ innEnd v) → (stepOf v ≡ nodeOf h v) ⊎ (nextOf v ≡ nodeOf h v)
     go (inl e) = inl (step-node v ∙ ap (λ (k : ℕ). nodeOf k v) (sym e))
     go (inr e) = inr (next-node v ∙ ap (λ (k : ℕ). nodeOf k v) (sym e))
+
+-- a corner is an entry's number
+pub node-small : (h v : ℕ) → End h → nodeOf h v < 1024
+node-small h v z = go (node-either h v z)
+  where
+    step-small : (w : ℕ) → stepOf w < 1024
+    step-small w = omega arith
+
+    next-small : (w : ℕ) → nextOf w < 1024
+    next-small w = omega arith
+
+    go : (stepOf v ≡ nodeOf h v) ⊎ (nextOf v ≡ nodeOf h v) → nodeOf h v < 1024
+    go (inl e) = subst (λ (k : ℕ). k < 1024) e (step-small v)
+    go (inr e) = subst (λ (k : ℕ). k < 1024) e (next-small v)

@@ -2,10 +2,10 @@
 
 ghost use mathlib.Core.Path.{_≡_};
 ghost use mathlib.Core.List.{List};
-ghost use Prim.Native.Nat.{ℕ, _+_, _<_, _≤_};
-ghost use lib.ListN.{length};
+ghost use Prim.Native.Nat.{ℕ, _+_, _-_, _<_, _≤_};
+ghost use lib.ListN.{length, set};
 ghost use Rattle.bits.specs.held.Bits.{marksOf};
-ghost use Rattle.words.specs.held.Words.{stepOf, nextOf, dirOf};
+ghost use Rattle.words.specs.held.Words.{stepOf, nextOf, dirOf, nodeOf};
 ghost use Rattle.reach.specs.held.Marking.{Marked, Flooded, Blank};
 ghost use Rattle.whole.specs.Least.{LeastBelow};
 ghost use Rattle.links.specs.held.Linking.{Joins, Pointed, Cornered, Met, Begun, Cut, Unlinks, Selves, Nodes, Links, Lone, Crossed, Onward, Walked, Traced};
@@ -74,20 +74,28 @@ fn selves(t: &mut [u16; 1024])
     }
 }
 
-// Writes down, for the corner where each word's step starts and for the one where it ends, the corner across the pair.
+// Writes down, for the corner where a word's step starts and for the one where it ends, the corner across its pair, of word w.
+fn across(v: u64, w: u64, out: &mut [u16; 1024], inn: &mut [u16; 1024])
+    requires { ⌜ (length (now out) ≡ 1024) × (length (now inn) ≡ 1024) ⌝ }
+    ensures { λ r. ⌜ (now (out .exit) ≡ set (now (out .entry)) (stepOf v) (nodeOf (1 + dirOf v) w)) × (now (inn .exit) ≡ set (now (inn .entry)) (nextOf v) (nodeOf (3 - (1 + dirOf v)) w)) ⌝ }
+{
+    let side = side_of(v);
+    out[step_of(v)] = words::node_of(w, side) as u16;
+    inn[next_of(v)] = words::node_of(w, 3 - side) as u16;
+}
+
+// The same for both words of each pair.
 fn cross(words: &[u64], out: &mut [u16; 1024], inn: &mut [u16; 1024])
     requires { ⌜ Selves (now out) × Selves (now inn) ⌝ }
     ensures { λ r. ⌜ Crossed (now (words .entry)) (now (out .exit)) (now (inn .exit)) ⌝ }
 {
-    let n = words.len();
     let mut i = 0;
-    while i < n {
+    while i + 1 < words.len() {
         let v = words[i];
-        let w = words[words::mate(n, i)];
-        let side = side_of(v);
-        out[step_of(v)] = words::node_of(w, side) as u16;
-        inn[next_of(v)] = words::node_of(w, 3 - side) as u16;
-        i += 1;
+        let w = words[i + 1];
+        across(v, w, out, inn);
+        across(w, v, out, inn);
+        i += 2;
     }
 }
 

@@ -1,21 +1,25 @@
 -- `links::cross` meets its contract.
-use Prim.Native.Nat.{_-_}
+use Prim.Native.Nat.{_-_, _%_, _≤_}
 use native.Mathlib.Omega.{arith}
+use mathlib.Core.Path.{_≡_, refl}
+use lib.ListN.{length, length-set}
 use borrow.Author.Needs.{needs}
-use lib.ListN.{length}
 use Rattle.words.specs.held.Words.{stepOf, nextOf}
-use Rattle.links.proofs.Crossings.{Noting, outOf, innOf, note-none, note-more, crossed}
+use Rattle.links.proofs.Crossings.{Noting, outOf, innOf, note-none, out-pair, inn-pair, crossed}
 use Rattle.links.proofs.cross.Statement.{statement}
 use Rattle.links.proofs.cross.Tie as tie
 
 abbrev Inv-loop : tie.InvT-loop
-Inv-loop words out₀ inn₀ n i₀ out inn i = Noting stepOf outOf words out i × Noting nextOf innOf words inn i
+Inv-loop words out₀ inn₀ i₀ out inn i = (i % 2 ≡ 0) × (i ≤ length words) × Noting stepOf outOf words out i × Noting nextOf innOf words inn i
 
 abbrev μ-loop : tie.MeasureT-loop
-μ-loop words out₀ inn₀ n i₀ out inn i = length words - i
+μ-loop words out₀ inn₀ i₀ out inn i = length words - i
 
 loop-holds : tie.Need-loop-holds Inv-loop μ-loop
-loop-holds c = (note-none _ _ _ _ (c .before .pre .0), note-none _ _ _ _ (c .before .pre .1))
+loop-holds c = (refl, omega arith, note-none _ _ _ _ (c .before .pre .0), note-none _ _ _ _ (c .before .pre .1))
+
+add-loop : tie.Need-add-loop Inv-loop μ-loop
+add-loop c = search needs
 
 mul-v : tie.Need-mul-v Inv-loop μ-loop
 mul-v c = search needs
@@ -23,50 +27,22 @@ mul-v c = search needs
 shared-slice-read-v : tie.Need-shared-slice-read-v Inv-loop μ-loop
 shared-slice-read-v c = search needs
 
-mate-requires : tie.Need-mate-requires Inv-loop μ-loop
-mate-requires c κs = search needs
+add-w : tie.Need-add-w Inv-loop μ-loop
+add-w c = search needs
 
 mul-w : tie.Need-mul-w Inv-loop μ-loop
 mul-w c = search needs
 
 shared-slice-read-w : tie.Need-shared-slice-read-w Inv-loop μ-loop
-shared-slice-read-w c = c .before .mate .ensures .within
+shared-slice-read-w c = search needs
 
-side-of-requires : tie.Need-side-of-requires Inv-loop μ-loop
-side-of-requires c κs = search needs
+across-requires : tie.Need-across-requires Inv-loop μ-loop
+across-requires c κs = let l = c .before .before .before .before .before .loop .inv in (l .2 .nodes .size, l .3 .nodes .size)
 
-node-of-requires : tie.Need-node-of-requires Inv-loop μ-loop
-node-of-requires c κs = search needs
-
-cast-out : tie.Need-cast-out Inv-loop μ-loop
-cast-out c = omega (arith, c .node-of .ensures .1)
-
-step-of-requires : tie.Need-step-of-requires Inv-loop μ-loop
-step-of-requires c κs = search needs
-
-mul-out : tie.Need-mul-out Inv-loop μ-loop
-mul-out c = search needs
-
-element-write-out : tie.Need-element-write-out Inv-loop μ-loop
-element-write-out c = search needs
-
-sub-node-of : tie.Need-sub-node-of Inv-loop μ-loop
-sub-node-of c = omega (arith, c .before .before .side-of .ensures .1)
-
-node-of-requires-2 : tie.Need-node-of-requires-2 Inv-loop μ-loop
-node-of-requires-2 c κs = search needs
-
-cast-inn : tie.Need-cast-inn Inv-loop μ-loop
-cast-inn c = omega (arith, c .node-of2 .ensures .1)
-
-next-of-requires : tie.Need-next-of-requires Inv-loop μ-loop
-next-of-requires c κs = search needs
-
-mul-inn : tie.Need-mul-inn Inv-loop μ-loop
-mul-inn c = search needs
-
-element-write-inn : tie.Need-element-write-inn Inv-loop μ-loop
-element-write-inn c = search needs
+across-requires-2 : tie.Need-across-requires-2 Inv-loop μ-loop
+across-requires-2 c κs = let l = c .before .before .before .before .before .before .before .before .loop .inv in
+    let e = c .before .before .across .ensures in
+    (rw (e .0, length-set) (l .2 .nodes .size), rw (e .1, length-set) (l .3 .nodes .size))
 
 add-i : tie.Need-add-i Inv-loop μ-loop
 add-i c = search needs
@@ -75,16 +51,14 @@ loop-less : tie.Need-loop-less Inv-loop μ-loop
 loop-less c = search needs
 
 loop-again : tie.Need-loop-again Inv-loop μ-loop
-loop-again c = let n = c .before .before .before in
-    let d = n .before in
-    let m = d .before .before in
-    let at = m .before .before .before in (
-      note-more _ _ _ _ _ _ (at .loop .inv .0) (m .before .before .loop-test .taken) (m .mate .ensures) _ _ (c .before .before .step-of .ensures .0) (rw (d .side-of .ensures .0) at (n .node-of .ensures .0)) (c .before .before .step-of .ensures .1) (n .node-of .ensures .1),
-      note-more _ _ _ _ _ _ (at .loop .inv .1) (m .before .before .loop-test .taken) (m .mate .ensures) _ _ (c .next-of .ensures .0) (rw (d .side-of .ensures .0) at (c .before .node-of2 .ensures .0)) (c .next-of .ensures .1) (c .before .node-of2 .ensures .1),
-    )
+loop-again c = let l = c .before .before .before .before .before .before .before .before .before .loop .inv in
+    let h = c .before .before .before .before .before .before .before .before .loop-test .taken in
+    let a = c .before .before .before .across .ensures in
+    let b = c .across2 .ensures in
+    (omega (arith, l .0), omega arith, rw (b .0, a .0) (out-pair _ _ _ (l .0) h (l .2)), rw (b .1, a .1) (inn-pair _ _ _ (l .0) h (l .3)))
 
 returns : tie.Need-returns Inv-loop μ-loop
-returns c = crossed _ _ _ _ (c .before .loop .inv .0) (c .before .loop .inv .1) (c .loop-test .left)
+returns c = let l = c .before .loop .inv in crossed _ _ _ _ (l .2) (l .3) (l .0) (omega (arith, c .loop-test .left))
 
 pub cross-spec : {M : Type 1} → statement M
 cross-spec =
@@ -93,23 +67,14 @@ cross-spec =
     Inv-loop
     μ-loop
     loop-holds
+    add-loop
     mul-v
     shared-slice-read-v
-    mate-requires
+    add-w
     mul-w
     shared-slice-read-w
-    side-of-requires
-    node-of-requires
-    cast-out
-    step-of-requires
-    mul-out
-    element-write-out
-    sub-node-of
-    node-of-requires-2
-    cast-inn
-    next-of-requires
-    mul-inn
-    element-write-inn
+    across-requires
+    across-requires-2
     add-i
     loop-less
     loop-again
