@@ -1,4 +1,5 @@
 -- What is proved of the definitions.
 pub mod Mates
 pub mod Nodes
+pub mod Swap
 pub mod Agree

@@ -11,19 +11,21 @@ pub fn key_of(w: u64) -> u64
     w / 536870912
 }
 
-// What a word joins: 0 its polygon, 1 its corner at the edge's smaller end, 2 that at the larger.
+// What a word joins: 0 its polygon, 1 its corner at the edge's smaller end, 2 that at the larger. The two corners are swapped by
+// arithmetic: a branch on the direction, which follows no rule, would cost more.
 pub fn node_of(w: u64, which: u8) -> usize
     ensures { λ r. ⌜ (r ≡ nodeOf which w) × (r < 1024) ⌝ }
 {
     if which == 0 {
         return (w / 2097152 % 256) as usize;
     }
-    let s = (w / 2048 % 1024) as usize;
-    let t = (w / 2 % 1024) as usize;
+    let s = w / 2048 % 1024;
+    let t = w / 2 % 1024;
+    let swap = (s ^ t) * (w % 2);
     if which == 1 {
-        if w % 2 == 0 { s } else { t }
+        (s ^ swap) as usize
     } else {
-        if w % 2 == 0 { t } else { s }
+        (t ^ swap) as usize
     }
 }
 
