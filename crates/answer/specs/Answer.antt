@@ -17,6 +17,10 @@ reported check a b faulty volume = digits 2 0 ++ digits 2 check ++ digits 4 a ++
 unfoldable pub told : ℕ → ℕ → ℕ → ℤ → List ℕ
 told finding position stamp part = digits 2 0 ++ digits 2 finding ++ digits 4 position ++ digits 8 stamp ++ digits 16 (bits64 part)
 
+-- document 02 (xiii): "answers `00`, users 4 digits, first user 4, second user 4"
+unfoldable pub across : ℕ → ℕ → ℕ → List ℕ
+across users lowest second = digits 2 0 ++ digits 4 users ++ digits 4 lowest ++ digits 4 second
+
 unfoldable pub answer-computes : Unit {0}
-unfolding plain reported told
+unfolding plain reported told across
 answer-computes = tt

@@ -6,7 +6,7 @@ ghost use lib.ListN.{length};
 ghost use lib.Seq.{sets};
 ghost use Rattle.hex.specs.Hex.{digit, digits, bits64};
 ghost use Rattle.lines.specs.Lines.{ended};
-ghost use Rattle.answer.specs.Answer.{plain, reported, told};
+ghost use Rattle.answer.specs.Answer.{plain, reported, told, across};
 ghost use Rattle.answer.specs.held.Wrote.{Wrote};
 
 // The digit of a number below 16, without branches.
@@ -94,4 +94,17 @@ pub fn put_told(
     put_digits(room, at + 16, 16, bits(part));
     room[at + 32] = 10;
     at + 33
+}
+
+// Writes the answer about an edge.
+pub fn put_across(room: &mut [u8], at: usize, users: usize, lowest: usize, second: usize) -> usize
+    requires { ⌜ at + 15 ≤ length (now room) ⌝ }
+    ensures { λ r. ⌜ Wrote (ended (across users lowest second)) (now (room .entry)) at (now (room .exit)) r ⌝ }
+{
+    put_digits(room, at, 2, 0);
+    put_digits(room, at + 2, 4, users as u64);
+    put_digits(room, at + 6, 4, lowest as u64);
+    put_digits(room, at + 10, 4, second as u64);
+    room[at + 14] = 10;
+    at + 15
 }

@@ -7,4 +7,5 @@ pub mod Lists
 pub mod Load
 pub mod Loadable
 pub mod Rings
+pub mod Sound
 pub mod Thirteen

@@ -1,4 +1,4 @@
-// Every polygon looked at, and end of load: the edge table built where every ring passes 01 to 03.
+// Every polygon looked at, and end of load: the edge table built, whatever the findings.
 use building::Scalars;
 use shell::Shape;
 ghost use mathlib.Core.Path.{_≡_};
@@ -6,7 +6,6 @@ ghost use Prim.Native.Nat.{_≤_};
 ghost use lib.ListN.{length};
 ghost use Rattle.whole.specs.held.Stored.{zeroed};
 ghost use Rattle.building.specs.Tables.{loaded};
-ghost use Rattle.shell.specs.held.Kept.{Known};
 ghost use Rattle.building.specs.held.Holds.{arrays, heldTables, Loaded, Sizes, Shown, Did};
 ghost use Rattle.checks.specs.held.Steps.{Checked};
 ghost use Rattle.checks.specs.held.Early.{isEarly, EarlyAt};
@@ -81,8 +80,7 @@ fn lowest_early(findings: &[u16; 256], n: usize) -> usize
     i
 }
 
-// The scalars after end of load, with the check of the whole that fails first as the rings stand now. Where a ring fails one of 01 to 03
-// no table is made, and the table of no rings stands in for it: a turn then asks it like any other.
+// The scalars after end of load, with the check of the whole that fails first as the rings stand now.
 fn held_shape(
     table: &[u64; 1024],
     turned: &[u8; 256],
@@ -90,7 +88,7 @@ fn held_shape(
     edges: usize,
     fixed: Shape,
 ) -> Scalars
-    requires { ⌜ Known (now table) edges (now turned) fixed × ((length (now table) ≡ 1024) × (length (now turned) ≡ 256)) ⌝ }
+    requires { ⌜ (edges ≤ 1024) × (length (now table) ≡ 1024) × (length (now turned) ≡ 256) ⌝ }
     ensures { λ r. ⌜ (r ≡ checked s edges fixed (r .shape)) × Shown (now (table .entry)) edges (now (turned .entry)) fixed (r .shape) ⌝ }
 {
     let shape = directions::shape_now(table, edges, turned, fixed);
@@ -105,8 +103,9 @@ fn held_shape(
     }
 }
 
-// End of load: "checks the building and holds it with last correction number 0 and all stamps 0". The edges are told of only where
-// every ring passes checks 01 to 03; where one does not, no correction mends it.
+// End of load: "checks the building and holds it with last correction number 0 and all stamps 0". The edge table is the list of edges
+// too, and is built whatever the findings; checks 07 to 0C are tried only where every ring passes 01 to 03, since where one does not no
+// correction mends it.
 pub fn check_all(
     points: &[i32; 1536],
     entries: &[u16; 1024],
@@ -128,10 +127,7 @@ pub fn check_all(
     clear_turned(turned);
     let n = s.polygons;
     let early = lowest_early(findings, n);
-    if early < n {
-        return held_shape(table, turned, s, 0, Shape::Few(0));
-    }
-    let kept = shell::built(entries, starts, n, table);
+    let kept = shell::built(entries, starts, n, table, n <= early);
     let edges = kept.count;
     let fixed = kept.fixed;
     held_shape(table, turned, s, edges, fixed)

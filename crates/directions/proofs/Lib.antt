@@ -1,3 +1,2 @@
 -- Lemmas on plain values that several proofs of this crate use.
 pub mod Now
-pub mod Ways

@@ -1,11 +1,9 @@
 // Check 0A among the others: the first of checks 07 to 0C that fails for the rings as they stand now.
 use shell::Shape;
 ghost use mathlib.Core.Path.{_≡_};
-ghost use Prim.Native.Nat.{ℕ, _<_};
-ghost use lib.ListN.{length};
-ghost use mathlib.Core.List.{List};
-ghost use Rattle.shell.specs.Shell.{shape};
-ghost use Rattle.shell.specs.held.Kept.{Edged, Known, early, orAlike, headingOf, alikeIn};
+ghost use Prim.Native.Nat.{_<_, _≤_};
+ghost use lib.ListN.{length, take};
+ghost use Rattle.shell.specs.held.Kept.{early, orAlike, nowOf, headingOf, alikeIn};
 
 // The direction in which a word's step is gone now.
 fn heading(w: u64, turned: &[u8; 256]) -> u64
@@ -57,9 +55,10 @@ fn is_early(s: Shape) -> bool
 }
 
 // The check of 07 to 0C that fails first for the rings as they stand now: `turned` has 1 for each polygon that stands turned.
+// `laws/Now` (`now-is`) says so of the rings that table, flags and verdict belong to.
 pub fn shape_now(table: &[u64; 1024], count: usize, turned: &[u8; 256], fixed: Shape) -> Shape
-    requires { ⌜ Known (now table) count (now turned) fixed × (length (now table) ≡ 1024) × (length (now turned) ≡ 256) ⌝ }
-    ensures { λ r. ⌜ ((rs : List (List ℕ)) → Edged rs (now (table .entry)) count (now (turned .entry)) fixed → r ≡ shape rs) ⌝ }
+    requires { ⌜ (count ≤ 1024) × (length (now table) ≡ 1024) × (length (now turned) ≡ 256) ⌝ }
+    ensures { λ r. ⌜ r ≡ nowOf fixed (alikeIn (now (turned .entry)) (take count (now (table .entry)))) ⌝ }
 {
     if is_early(fixed) {
         return fixed;

@@ -1,3 +1,4 @@
 pub mod Edges
+pub mod Order
 pub mod held
 pub mod laws

@@ -16,6 +16,7 @@ pub data Frame : Type 0 where
   move : ℕ → ℕ → ℤ → ℤ → ℤ → Frame
   turn : ℕ → ℕ → Frame
   question : ℕ → Frame
+  across : ℕ → ℕ → Frame
   broken : Frame
 
 -- the column Kind
@@ -27,6 +28,7 @@ pub data Kind : Type 0 where
   move : Kind
   turn : Kind
   question : Kind
+  across : Kind
   unknown : Kind
 
 -- the kind of a number
@@ -39,7 +41,8 @@ kindOf n =
     (cond (eqb n 5) Kind.move
     (cond (eqb n 6) Kind.turn
     (cond (eqb n 7) Kind.question
-    Kind.unknown))))))
+    (cond (eqb n 12) Kind.across
+    Kind.unknown)))))))
 
 -- the column Length: whether a line of n digits is a frame of the kind
 unfoldable pub fits : Kind → ℕ → Bool
@@ -50,6 +53,7 @@ fits Kind.end-of-load n = eqb n 2
 fits Kind.move n = eqb n 38
 fits Kind.turn n = eqb n 14
 fits Kind.question n = eqb n 6
+fits Kind.across n = eqb n 10
 fits Kind.unknown n = false
 
 -- an unsigned field of k digits, handed on with the digits after it
@@ -77,6 +81,7 @@ filled Kind.end-of-load l = Frame.end-of-load
 filled Kind.move l = unsigned 8 (λ n. unsigned 4 (λ p. coordinate (λ x. coordinate (λ y. coordinate (λ z _. Frame.move n p x y z))))) l
 filled Kind.turn l = unsigned 8 (λ n. unsigned 4 (λ p _. Frame.turn n p)) l
 filled Kind.question l = unsigned 4 (λ p _. Frame.question p) l
+filled Kind.across l = unsigned 4 (λ a. unsigned 4 (λ b _. Frame.across a b)) l
 filled Kind.unknown l = broken
 
 -- the kind that a line names by its first two digits

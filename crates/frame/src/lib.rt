@@ -18,6 +18,7 @@ pub enum Fields {
     Move(u32, u16, i64, i64, i64),
     Turn(u32, u16),
     Question(u16),
+    Across(u16, u16),
     Broken,
 }
 
@@ -40,6 +41,7 @@ pub fn decode(line: &[u8]) -> Fields
         5 => read_move(line),
         6 => read_turn(line),
         7 => read_question(line),
+        12 => read_across(line),
         _ => Fields::Broken,
     }
 }
@@ -124,6 +126,19 @@ fn read_question(line: &[u8]) -> Fields
 {
     if line.len() == 6 {
         return Fields::Question(fields::unsigned(line, 2, 4) as u16);
+    }
+    Fields::Broken
+}
+
+fn read_across(line: &[u8]) -> Fields
+    requires { ⌜ allHex (now line) ≡ true ⌝ }
+    ensures { λ r. ⌜ meaning r (now (line .entry)) ≡ shaped Kind.across (now (line .entry)) ⌝ }
+{
+    if line.len() == 10 {
+        return Fields::Across(
+            fields::unsigned(line, 2, 4) as u16,
+            fields::unsigned(line, 6, 4) as u16,
+        );
     }
     Fields::Broken
 }

@@ -90,6 +90,7 @@ fn one(
             let n = p as usize;
             asking::ask(stamps, findings, parts, room, d, n)
         }
+        Fields::Across(m, n) => across::ask(table, room, d, m, n),
         Fields::Broken => desk::refuse(room, d, Refusal::Malformed),
     }
 }

@@ -11,7 +11,7 @@ use lib.ListN.{length, drop, getD}
 use lib.IntN.{ℤ, pos, negsuc}
 use Rattle.whole.specs.Lists.{tally}
 use Rattle.whole.specs.All.{All}
-use Rattle.frame.specs.Frame.{end-of-load, question, decode}
+use Rattle.frame.specs.Frame.{end-of-load, question, across, decode}
 use Rattle.frame.specs.Encode.{encode}
 use Rattle.lines.specs.Lines.{lines, ended, joined}
 use Rattle.answer.specs.Answer.{plain, reported, told}
@@ -22,6 +22,7 @@ use Rattle.polygon.specs.laws.Position.{position-is}
 use Rattle.space.specs.Space.{Point}
 use Rattle.volume.specs.Part.{part}
 use Rattle.shell.specs.declared.Shape.the-variants.{Few, Once, Often, Alike, Apart, Unlinked}
+use Rattle.users.specs.EdgeList.{Listed, edgeList}
 use Rattle.edges.specs.Edges.{smaller, larger, usedOnce, usedOften, usedAlike}
 use Rattle.shell.specs.Shell.{notReached, notLinked}
 use Rattle.building.specs.declared.Verdict.the-variants.{Accepted, Faulty, Unsound, Inward}
@@ -32,17 +33,22 @@ use Rattle.building.specs.laws.Thirteen.{accepted-none, none-accepted, zero-non
 use Rattle.building.specs.Corrections.{stampOf, lastNumber}
 use Rattle.service.specs.declared.Refusal.{Refusal}
 use Rattle.service.specs.declared.Refusal.the-variants.{Late}
-use Rattle.service.specs.Service.{State, nothing, tablesOf, buildingOf, refusal, refusalNumber, reportOf, toldOf, Outcome, outcome, step, accepts}
+use Rattle.service.specs.Service.{State, nothing, tablesOf, buildingOf, refusal, refusalNumber, reportOf, toldOf, acrossOf, answerTo, Outcome, outcome, step, accepts}
 use Rattle.service.specs.Stream.{Served, served, answers, after, run, Answers, Stands}
 use Rattle.service.specs.laws.Refusals.{refused-line, struck-stream}
 use Rattle.service.specs.Strike.{struck, acceptedAnswers, Left}
 use Rattle.service.specs.Fresh.{loadLines, freshReport, freshHeld, freshStream}
 use Rattle.service.specs.Span.{isCorrection, Span, loadedBy, correctionsOf, correctedBy, held, SameButStamp, Numbered, toldIn}
 use Rattle.service.specs.laws.Span.{held-tables, stamp-is, correction-fresh, correction-report, corrected-loadable, question-fresh, late-correction, end-reports, question-told}
+use Rattle.service.specs.laws.Across.{either-step, across-fresh, across-told, corrections-keep}
+use Rattle.service.specs.laws.TwoUsers.{none-two}
 use Rattle.service.specs.laws.Short.{step-short}
 use Rattle.service.specs.laws.Entry.{answer-agrees, fresh-lines, fresh-answers, fresh-few, fresh-short, entry-bytes, entry-refused, entry-line}
 use Rattle.service.specs.laws.Strike.{left-of}
 use Rattle.building.specs.laws.Thirteen as T
+use Rattle.answer.specs.Answer as Answer
+use Rattle.users.specs.EdgeList as EdgeList
+use Rattle.users.specs.laws.Turned.{turned-list}
 use Rattle.service.specs.laws.Room as R
 
 -- ---- 1. "Every sequence of bytes gets a fixed answer."
@@ -91,6 +97,15 @@ pub tells : (n : ℕ) (b : Building) → let t = b .tables in let ring = getD (t
     toldOf n b ≡ told (findingNumber f) (findingPosition f) (getD (b .stamps) n 0) (part (t .points) ring)
 unfolding toldOf
 tells n b = refl
+
+-- what a 0C answers; document 02 (xiii): "answers `00`, users 4 digits, first user 4, second user 4", of the list of edges "beside the tables"
+pub tells-across : (m n : ℕ) (st : State) → let e = EdgeList.across m n (tablesOf st .polygons) in answerTo (across m n) st ≡ Answer.across (e .users) (e .lowest) (e .second)
+unfolding answerTo acrossOf
+tells-across m n st = refl
+
+-- document 02 (xiii): "in either order": what is answered and what is held, refused or accepted
+pub either-order : (st : State) (m n : ℕ) (l l′ : List ℕ) → decode l ≡ across m n → decode l′ ≡ across n m → step st l ≡ step st l′
+either-order = either-step
 
 -- document 02 (iii): "A polygon's finding shall carry a position": what it says, by the number beside it
 pub position : (tolerance : ℕ) (points : List Point) (ring : Polygon) → Position tolerance points ring (finding tolerance points ring)
@@ -174,6 +189,22 @@ module _ (before : List (List ℕ)) (end : List ℕ) (since : List (List ℕ)) (
       → SameButStamp (step (held before end since) l .answer) (step (freshHeld (correctedBy before since)) l .answer)
   same-polygon = question-fresh before end since s
 
+  -- document 02 (xiii): "After any correction it equals the list made afresh": the list itself, and what a 0C is answered, refused or accepted
+  pub same-list : edgeList (tablesOf (held before end since) .polygons) ≡ edgeList (correctedBy before since .polygons)
+  same-list = ap (λ (t : Tables). edgeList (t .polygons)) corrected-tables
+
+  pub same-across : (l : List ℕ) (m n : ℕ) → decode l ≡ across m n → step (held before end since) l .answer ≡ step (freshHeld (correctedBy before since)) l .answer
+  same-across = across-fresh before end since s
+
+  -- document 02 (xiii): "which polygon is across an edge": where none of the thirteen fails, each edge of the list has two users, and they differ
+  pub two-across : NoneOfThirteen (correctedBy before since) → All (λ (e : Listed). (e .users ≡ 2) × (e .lowest < e .second) × (e .second < length (correctedBy before since .polygons))) (edgeList (correctedBy before since .polygons))
+  two-across = none-two (correctedBy before since) (corrected-loadable before end since s)
+
+  -- "a turn alters no users": after any corrections the list is that of the loaded tables
+  pub turn-alters-none : edgeList (correctedBy before since .polygons) ≡ edgeList (loadedBy before .polygons)
+  unfolding correctedBy
+  turn-alters-none = corrections-keep edgeList turned-list (loadedBy before) (correctionsOf before since)
+
   -- "Each polygon's stamp is the number of the last correction accepted in that span that turned it or moved a point its ring lists, zero if there was none."
   pub stamp : (n : ℕ) → n < length (loadedBy before .polygons) → getD (buildingOf (held before end since) .stamps) n 0 ≡ stampOf (correctionsOf before since) n (getD (loadedBy before .polygons) n [])
   stamp = stamp-is before end since s
@@ -239,6 +270,10 @@ module _ (stream room : List ℕ) (code : ℤ) (room′ : List ℕ) (returned : 
       pub code-question : (n : ℕ) → decode l ≡ question n → accepts (held before end since) l ≡ true
           → Stands (before ++ end ∷ since) (toldIn (correctedBy before since) n (stampOf (correctionsOf before since) n (getD (loadedBy before .polygons) n []))) room′
       code-question n d t = subst (λ (q : List ℕ). Stands (before ++ end ∷ since) q room′) (question-told before end since s l n d t) here
+
+      -- an accepted 0C with what the list of edges of the corrected tables tells;
+      pub code-across : (m n : ℕ) → decode l ≡ across m n → accepts (held before end since) l ≡ true → Stands (before ++ end ∷ since) (acrossOf m n (correctedBy before since)) room′
+      code-across m n d t = subst (λ (q : List ℕ). Stands (before ++ end ∷ since) q room′) (across-told before end since s l m n d t) here
 
       -- a correction numbered no higher than the last accepted one with 07, and nothing else.
       pub code-late : (number : ℕ) → Numbered (decode l) number → number ≤ lastNumber (correctionsOf before since) → Stands (before ++ end ∷ since) (plain 7) room′

@@ -16,6 +16,7 @@ use Rattle.volume.specs.Part.{part}
 use Rattle.plane.specs.Plane.{plane-computes}
 use Rattle.shell.specs.declared.Shape.the-variants.{Few}
 use Rattle.edges.specs.Edges.{edges-compute}
+use Rattle.users.specs.EdgeList.{edge-list-computes}
 use Rattle.reach.specs.Reach.{reach-computes}
 use Rattle.shell.specs.Shell.{shell-computes}
 use Rattle.places.specs.Points.{points-compute}
@@ -28,7 +29,7 @@ use Rattle.service.specs.Stream.{stream-computes, answers}
 use Rattle.lines.specs.Lines as L
 
 unfoldable pub everything-computes : Unit {0}
-unfolding lists-compute bytes hex-computes L.lines-compute frame-computes answer-computes space-computes plane-computes ring-computes edges-compute reach-computes shell-computes points-compute tables-compute report-computes service-computes stream-computes
+unfolding lists-compute bytes hex-computes L.lines-compute frame-computes answer-computes space-computes plane-computes ring-computes edges-compute edge-list-computes reach-computes shell-computes points-compute tables-compute report-computes service-computes stream-computes
 everything-computes = tt
 
 -- "One stream in full": "Input to `framecheck`"
@@ -57,6 +58,25 @@ turnedOutput = bytes "00\n00\n00\n00\n00\n00\n00050000000000010000000000000000\n
 pub turned-stream : answers turnedInput ≡ turnedOutput
 unfolding everything-computes
 turned-stream = refl
+
+-- document 02 (xiii): the worked stream goes on, and polygons 0 and 3 are across the edge from point 1 to point 2, though 3 is turned
+pub across-stream : answers (input ++ bytes "0C00010002\n") ≡ output ++ bytes "00000200000003\n"
+unfolding everything-computes
+across-stream = refl
+
+-- polygon 0 goes from point 0 to point 1 and back; polygon 1 stays at 0, goes on to 1 and 2, and is open. So the edge of 0 and 1 is used twice by 0
+-- and once by 1, that of 1 and 2 once, and 0 and 2 share none. Refused: 0C before and in the load, equal numbers, an unknown point.
+abbrev pub sharedInput : List ℕ
+unfolding bytes
+sharedInput = bytes "0C00000001\n010000\n02000000000000000000000000\n02000003E80000000000000000\n0200000000000003E800000000\n03000000010000\n030000000000010002\n0C00000001\n04\n0C00000001\n0C00010000\n0C00020001\n0C00000002\n0C00010001\n0C00020003\n06000000010001\n0C00000001\n"
+
+abbrev pub sharedOutput : List ℕ
+unfolding bytes
+sharedOutput = bytes "02\n00\n00\n00\n00\n00\n00\n02\n00010000000000020000000000000000\n00000300000000\n00000300000000\n0000010001FFFF\n000000FFFFFFFF\n05\n05\n00010000000000020000000000000000\n00000300000000\n"
+
+pub shared-stream : answers sharedInput ≡ sharedOutput
+unfolding everything-computes
+shared-stream = refl
 
 -- ---- "Examples at the edges"
 

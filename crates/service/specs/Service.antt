@@ -2,10 +2,10 @@
 use Prim.Native.Nat.{ℕ, _+_}
 use mathlib.Core.Bool.{Bool, true, false, not, _||_}
 use mathlib.Core.List.{List, [], _∷_}
-use lib.Dec.{leb, ltb}
+use lib.Dec.{eqb, leb, ltb}
 use lib.ListN.{length, getD}
 use Rattle.whole.specs.Lists.{given, first, any}
-use Rattle.frame.specs.Frame.{Frame, begin, point, polygon, end-of-load, move, turn, question, broken, decode}
+use Rattle.frame.specs.Frame.{Frame, begin, point, polygon, end-of-load, move, turn, question, across, broken, decode}
 use Rattle.answer.specs.Answer.{plain, reported, told}
 use Rattle.polygon.specs.Ring.{finding, findingNumber, findingPosition}
 use Rattle.volume.specs.Part.{part}
@@ -14,6 +14,8 @@ use Rattle.building.specs.Tables.{Tables, Building, begun, withPoint, withPolyg
 use Rattle.building.specs.Report.{report, checkNumber, elementA, elementB}
 use Rattle.service.specs.declared.Refusal.{Refusal}
 use Rattle.service.specs.declared.Refusal.the-variants.{Accepted, Malformed, Misplaced, Beyond, Full, Absent, Taken, Late}
+use Rattle.answer.specs.Answer as Answer
+use Rattle.users.specs.EdgeList as EdgeList
 
 -- "Each call starts with no load running and no building held"
 pub data State : Type 0 where
@@ -69,9 +71,10 @@ isMalformed end-of-load = false
 isMalformed (move number n x y z) = false
 isMalformed (turn number n) = false
 isMalformed (question n) = false
+isMalformed (across m n) = false
 isMalformed broken = true
 
--- 02: "02, 03 or 04 while no load is running; 05, 06 or 07 while no building is held"
+-- 02: "02, 03 or 04 while no load is running; 05, 06 or 07 while no building is held"; document 02 (xiii): "02 with no building held"
 unfoldable pub isMisplaced : State → Frame → Bool
 isMisplaced st (begin t) = false
 isMisplaced st (point x y z) = not (isLoading st)
@@ -80,6 +83,7 @@ isMisplaced st end-of-load = not (isLoading st)
 isMisplaced st (move number n x y z) = not (isHolding st)
 isMisplaced st (turn number n) = not (isHolding st)
 isMisplaced st (question n) = not (isHolding st)
+isMisplaced st (across m n) = not (isHolding st)
 isMisplaced st broken = false
 
 -- 07: "correction number not above the last accepted one (0 is always late)"
@@ -91,9 +95,10 @@ isLate b end-of-load = false
 isLate b (move number n x y z) = leb number (b .last)
 isLate b (turn number n) = leb number (b .last)
 isLate b (question n) = false
+isLate b (across m n) = false
 isLate b broken = false
 
--- 05: "a point or polygon number not below the present count"
+-- 05: "a point or polygon number not below the present count"; document 02 (xiii): "05 for an unknown point; two equal numbers also 05"
 unfoldable pub isAbsent : Tables → Frame → Bool
 isAbsent t (begin tolerance) = false
 isAbsent t (point x y z) = false
@@ -102,6 +107,7 @@ isAbsent t end-of-load = false
 isAbsent t (move number n x y z) = leb (length (t .points)) n
 isAbsent t (turn number n) = leb (length (t .polygons)) n
 isAbsent t (question n) = leb (length (t .polygons)) n
+isAbsent t (across m n) = leb (length (t .points)) m || leb (length (t .points)) n || eqb m n
 isAbsent t broken = false
 
 -- 03: "tolerance or coordinate beyond its bound"
@@ -113,6 +119,7 @@ isBeyond end-of-load = false
 isBeyond (move number n x y z) = isFar (record { x = x; y = y; z = z })
 isBeyond (turn number n) = false
 isBeyond (question n) = false
+isBeyond (across m n) = false
 isBeyond broken = false
 
 -- 04: "the 513th point, the 257th polygon, or entries above 1,024 in all"
@@ -124,6 +131,7 @@ isFull t end-of-load = false
 isFull t (move number n x y z) = false
 isFull t (turn number n) = false
 isFull t (question n) = false
+isFull t (across m n) = false
 isFull t broken = false
 
 -- 06: "the place is that of another point"
@@ -135,6 +143,7 @@ isTaken t end-of-load = false
 isTaken t (move number n x y z) = standsElse n (record { x = x; y = y; z = z }) (t .points)
 isTaken t (turn number n) = false
 isTaken t (question n) = false
+isTaken t (across m n) = false
 isTaken t broken = false
 
 -- "Given exactly when, no earlier test having refused"; "The rows stand in the order of testing."
@@ -161,6 +170,7 @@ takes st end-of-load = holding (loaded (tablesOf st))
 takes st (move number n x y z) = holding (moved number n (record { x = x; y = y; z = z }) (buildingOf st))
 takes st (turn number n) = holding (turned number n (buildingOf st))
 takes st (question n) = st
+takes st (across m n) = st
 takes st broken = st
 
 -- the report as it is answered
@@ -177,6 +187,12 @@ toldOf n b =
     let f = finding (t .tolerance) (t .points) ring in
     told (findingNumber f) (findingPosition f) (getD (b .stamps) n 0) (part (t .points) ring)
 
+-- what the list of edges tells of two points, as it is answered
+unfoldable pub acrossOf : ℕ → ℕ → Tables → List ℕ
+acrossOf m n t =
+    let e = EdgeList.across m n (t .polygons) in
+    Answer.across (e .users) (e .lowest) (e .second)
+
 -- what is answered to an accepted frame, of what is held after it
 unfoldable pub answerTo : Frame → State → List ℕ
 answerTo (begin tolerance) st = plain 0
@@ -186,6 +202,7 @@ answerTo end-of-load st = reportOf (tablesOf st)
 answerTo (move number n x y z) st = reportOf (tablesOf st)
 answerTo (turn number n) st = reportOf (tablesOf st)
 answerTo (question n) st = toldOf n (buildingOf st)
+answerTo (across m n) st = acrossOf m n (tablesOf st)
 answerTo broken st = plain 0
 
 -- ---- one line
@@ -230,5 +247,5 @@ unfoldable pub accepts : State → List ℕ → Bool
 accepts st l = isAccepted (refusal st (decode l))
 
 unfoldable pub service-computes : Unit {0}
-unfolding refusalNumber tablesOf buildingOf isLoading isHolding isMalformed isMisplaced isLate isAbsent isBeyond isFull isTaken refusal takes reportOf toldOf answerTo outcome step
+unfolding refusalNumber tablesOf buildingOf isLoading isHolding isMalformed isMisplaced isLate isAbsent isBeyond isFull isTaken refusal takes reportOf toldOf acrossOf answerTo outcome step
 service-computes = tt

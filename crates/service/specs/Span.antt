@@ -5,7 +5,7 @@ use mathlib.Core.Bool.{Bool, true, false, _&&_}
 use mathlib.Core.List.{List, [], _∷_, _++_}
 use lib.ListN.{getD}
 use lib.IntN.{ℤ}
-use Rattle.frame.specs.Frame.{Frame, begin, point, polygon, end-of-load, move, turn, question, broken, decode}
+use Rattle.frame.specs.Frame.{Frame, begin, point, polygon, end-of-load, move, turn, question, across, broken, decode}
 use Rattle.answer.specs.Answer.{told}
 use Rattle.polygon.specs.Ring.{finding, findingNumber, findingPosition}
 use Rattle.volume.specs.Part.{part}
@@ -24,6 +24,7 @@ isBegin end-of-load = false
 isBegin (move number n x y z) = false
 isBegin (turn number n) = false
 isBegin (question n) = false
+isBegin (across m n) = false
 isBegin broken = false
 
 -- no line of some is an accepted begin
@@ -40,6 +41,7 @@ recorded end-of-load h = h
 recorded (move number n x y z) h = C.move number n (record { x = x; y = y; z = z }) ∷ h
 recorded (turn number n) h = C.turn number n ∷ h
 recorded (question n) h = h
+recorded (across m n) h = h
 recorded broken h = h
 
 -- the corrections accepted among some lines, put to a history
@@ -80,6 +82,7 @@ isCorrection end-of-load = false
 isCorrection (move number n x y z) = true
 isCorrection (turn number n) = true
 isCorrection (question n) = false
+isCorrection (across m n) = false
 isCorrection broken = false
 
 -- a frame is a correction of that number

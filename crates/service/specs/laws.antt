@@ -7,4 +7,6 @@ pub mod History
 pub mod Strike
 pub mod Fresh
 pub mod Span
+pub mod Across
+pub mod TwoUsers
 pub mod Entry

@@ -5,7 +5,7 @@ use mathlib.Core.List.{List}
 use lib.IntN.{ℤ}
 use Rattle.whole.specs.laws.Agree.{agree}
 use Rattle.lines.specs.Lines.{ended}
-use Rattle.answer.specs.Answer.{plain, reported, told}
+use Rattle.answer.specs.Answer.{plain, reported, told, across}
 use Rattle.answer.specs.held.Wrote.{Wrote}
 
 -- two writes of the same bytes: the whole room and the next place
@@ -23,3 +23,7 @@ module _ (room room₁ room₂ : List ℕ) (at r₁ r₂ : ℕ) where
   pub put-told-agrees : (finding position stamp : ℕ) (part : ℤ) → Wrote (ended (told finding position stamp part)) room at room₁ r₁
       → Wrote (ended (told finding position stamp part)) room at room₂ r₂ → (room₁ ≡ room₂) × (r₁ ≡ r₂)
   put-told-agrees finding position stamp part = wrote-agree
+
+  pub put-across-agrees : (users lowest second : ℕ) → Wrote (ended (across users lowest second)) room at room₁ r₁
+      → Wrote (ended (across users lowest second)) room at room₂ r₂ → (room₁ ≡ room₂) × (r₁ ≡ r₂)
+  put-across-agrees users lowest second = wrote-agree

@@ -12,8 +12,7 @@ use Rattle.volume.specs.Part.{part}
 use Rattle.space.specs.held.Points.{pointsOf, Coords}
 use Rattle.shell.specs.held.Held.{ringAt, rings, Starts, Entries}
 use Rattle.shell.specs.declared.Shape.{Shape}
-use Rattle.shell.specs.Shell.{shape}
-use Rattle.shell.specs.held.Kept.{Edged, Known}
+use Rattle.shell.specs.held.Kept.{Listed, Edged, nowOf, alikeIn}
 use Rattle.building.specs.declared.Scalars.{Scalars}
 use Rattle.polygon.specs.held.Findings.{keptFinding}
 use Rattle.building.specs.Tables.{Tables, Building}
@@ -88,18 +87,17 @@ pub record Broken (entries starts : List ℕ) (n : ℕ) : Type 0 where
   pub below : polygon < n
   pub broken : isBroken (ringAt entries starts polygon) ≡ true
 
--- the kept table, flags and verdict belong to some rings, and `now` is the shape of the rings that they belong to
-pub record Shown (table : List ℕ) (edges : ℕ) (turned : List ℕ) (fixed now : Shape) : Type 0 where
-  pub known : Known table edges turned fixed
-  pub is : (rs : List (List ℕ)) → Edged rs table edges turned fixed → now ≡ shape rs
+-- `now` is the shape that the kept table, flags and verdict tell: that of the present rings, where each of them passes 01 to 03
+abbrev pub Shown : List ℕ → ℕ → List ℕ → Shape → Shape → Type 0
+Shown table edges turned fixed now = now ≡ nowOf fixed (alikeIn turned (take edges table))
 
--- what is kept of a held building is what the definitions give for the present points and rings
+-- what is kept of a held building is what the definitions give for the present points and rings; the edge table, whatever they are
 pub record Kept (points : List ℤ) (entries starts findings : List ℕ) (parts : List ℤ) (table turned : List ℕ) (s : Scalars) : Type 0 where
   pub found : Found points entries starts findings s
   pub summed : Summed points entries starts parts s
   pub table-size : length table ≡ 1024
   pub turned-size : length turned ≡ 256
-  pub flags : (p : ℕ) → getD turned p 0 ≤ 1
+  pub listed : Listed (rings entries starts (s .polygons)) table (s .edges) turned
   pub shaped : Broken entries starts (s .polygons) ⊎ Edged (rings entries starts (s .polygons)) table (s .edges) turned (s .fixed)
   pub shown : Shown table (s .edges) turned (s .fixed) (s .shape)
 

@@ -5,7 +5,6 @@ use mathlib.Core.List.{List}
 use lib.ListN.{set}
 use Rattle.whole.specs.laws.Agree.{agree}
 use Rattle.shell.specs.declared.Shape.{Shape}
-use Rattle.shell.specs.laws.Agree.{shape-now-agree}
 use Rattle.building.specs.held.Holds.{Shown}
 use Rattle.polygon.specs.declared.Finding.{Finding}
 use Rattle.polygon.specs.Ring.{findingNumber, findingPosition}
@@ -21,5 +20,4 @@ finding-position-agrees f r₁ r₂ = agree
 
 -- the shape that is kept is one
 pub shown-agrees : {t t' : List ℕ} {k k' : ℕ} {u u' : List ℕ} {f f' r r' : Shape} → t ≡ t' → k ≡ k' → u ≡ u' → f ≡ f' → Shown t k u f r → Shown t' k' u' f' r' → r ≡ r'
-shown-agrees {t' = t'} {k' = k'} {u' = u'} {f' = f'} {r = r} {r' = r'} e₁ e₂ e₃ e₄ x y =
-    let z : Shown t' k' u' f' r = rw (e₁, e₂, e₃, e₄) at x in shape-now-agree t' k' u' f' r r' (y .known) (z .is) (y .is)
+shown-agrees {t' = t'} {k' = k'} {u' = u'} {f' = f'} {r = r} e₁ e₂ e₃ e₄ x y = let z : Shown t' k' u' f' r = rw (e₁, e₂, e₃, e₄) at x in agree z y

@@ -6,16 +6,17 @@ use mathlib.Core.Path.{_≡_, sym, _∙_, subst}
 use mathlib.Core.Bool.{true≢false}
 use mathlib.Core.List.{List}
 use borrow.Author.Tests.{ltb-true, ltb-false}
-use lib.Dec.{ltb}
+use lib.Dec.{leb, ltb}
 use lib.IntN.{ℤ}
 use Rattle.whole.specs.laws.Agree.{agree}
+use Rattle.shell.specs.held.Kept.{Built}
 use Rattle.shell.specs.laws.Agree.{built-agree}
 use Rattle.building.specs.declared.Scalars.{Scalars}
 use Rattle.whole.specs.laws.Stores.{cases}
 use Rattle.building.specs.held.Holds.{Arrays}
 use Rattle.checks.specs.held.Early.{EarlyAt}
 use Rattle.building.specs.laws.Agree.{shown-agrees}
-use Rattle.checks.specs.held.Writes.{checked, TableWrites, LoadWrites}
+use Rattle.checks.specs.held.Writes.{checked, LoadWrites}
 
 module _ (a : Arrays) (s : Scalars) where
   -- the first polygon that fails one of checks 01 to 03 is one
@@ -30,22 +31,13 @@ module _ (a : Arrays) (s : Scalars) where
       (λ u. absurd (before f e (ltb-true j i u)))
       (λ u. omega (arith, ltb-false i j t, ltb-false j i u)))
 
-  table-agrees : {low : ℕ} {table' table'' : List ℕ} {r r' : Scalars} → TableWrites a s low table' r → TableWrites a s low table'' r' → (table' ≡ table'') × (r .edges ≡ r' .edges) × (r .fixed ≡ r' .fixed)
-  table-agrees {low = low} {table' = table'} {table'' = table''} {r = r} {r' = r'} t t' =
-      cases (ltb low (s .polygons))
-      (λ h. let l = t .left (ltb-true low (s .polygons) h) in
-      let l' = t' .left (ltb-true low (s .polygons) h) in
-      (agree (l .0) (l' .0), agree (l .1) (l' .1), agree (l .2) (l' .2)))
-      (λ h. let b = t .built (ltb-false low (s .polygons) h) in
-      let b' = t' .built (ltb-false low (s .polygons) h) in
-      built-agree (a .entries) (a .starts) (s .polygons) (a .table) table' table'' (r .edges) (r' .edges) (r .fixed) (r' .fixed) b b')
-
   pub load-agrees : {stamps' stamps'' findings' findings'' : List ℕ} {parts' parts'' : List ℤ} {table' table'' turned' turned'' : List ℕ} {r r' : Scalars} → LoadWrites a s stamps' findings' parts' table' turned' r → LoadWrites a s stamps'' findings'' parts'' table'' turned'' r'
       → (stamps' ≡ stamps'') × (findings' ≡ findings'') × (parts' ≡ parts'') × ((table' ≡ table'') × (r ≡ r')) × (turned' ≡ turned'')
-  load-agrees {findings' = findings'} {findings'' = findings''} {table'' = table''} {r' = r'} w w' =
+  load-agrees {findings' = findings'} {findings'' = findings''} {table' = table'} {table'' = table''} {r = r} {r' = r'} w w' =
       let e : findings' ≡ findings'' = agree (w .each .found) (w' .each .found) in
       let l : w .low ≡ w' .low = low-agrees (subst (λ (f : List ℕ). EarlyAt f (s .polygons) (w .low)) e (w .early)) (w' .early) in
-      let t = table-agrees (w .table) (subst (λ (i : ℕ). TableWrites a s i table'' r') (sym l) (w' .table)) in
+      let t = built-agree (a .entries) (a .starts) (s .polygons) (a .table) table' table'' (r .edges) (r' .edges) (leb (s .polygons) (w .low)) (r .fixed) (r' .fixed) (w .table)
+      (subst (λ (i : ℕ). Built (a .entries) (a .starts) (s .polygons) (a .table) table'' (r' .edges) (leb (s .polygons) i) (r' .fixed)) (sym l) (w' .table)) in
       let u = agree (w .turned) (w' .turned) in
       let h = shown-agrees (t .0) (t .1) u (t .2) (w .shown) (w' .shown) in
       (agree (w .stamps) (w' .stamps), e, agree (w .each .summed) (w' .each .summed), (t .0, w .scalars ∙ (λ j. checked s (t .1 j) (t .2 j) (h j)) ∙ sym (w' .scalars)), u)

@@ -3,32 +3,31 @@ use Prim.Native.Nat.{ℕ, zero, suc, _+_, _-_, _%_, _≤_, _<_}
 use native.Mathlib.Omega.{arith}
 use mathlib.Core.Path.{_≡_, refl, sym, ap, ap₂, _∙_, subst}
 use mathlib.Core.Bool.{Bool, true, false, _&&_, true≢false, false≢true}
-use mathlib.Core.List.{List, [], _∷_, _++_, map}
-use mathlib.Core.Logic.{_⊎_}
-use borrow.Author.Tests.{ltb-true, ltb-false, leb-true, le-leb, not-false}
-use lib.Dec.{ltb, leb, eqb}
+use mathlib.Core.List.{List, _++_, map}
+use mathlib.Core.Logic.{_⊎_, inl, inr}
+use borrow.Author.Tests.{ltb-true, ltb-false, leb-true, le-leb}
+use lib.Dec.{ltb, leb}
 use lib.ListN.{length, getD, take, drop, length-append, length-drop}
 use lib.IntN.{ℤ, pos}
 use Rattle.whole.specs.laws.Bools.{none-of}
-use Rattle.whole.specs.Lists.{given, first, tab, lastOf}
 use Rattle.whole.specs.laws.Stores.{cases, upto-done, length-upto}
 use Rattle.whole.specs.held.Stored.{zeroed}
 use Rattle.polygon.specs.Ring.{isShort, finding, findingNumber}
 use Rattle.ring.specs.Entries.{isUnclosed, isRepeated}
 use Rattle.space.specs.held.Points.{pointsOf}
 use Rattle.shell.specs.declared.Shape.{Shape}
-use Rattle.shell.specs.declared.Shape.the-variants.{Few}
 use Rattle.shell.specs.held.Held.{ringAt, rings, Starts}
-use Rattle.edges.specs.held.Table.{stepWord, ringWords, wordsTo, tableOf, ascending}
+use Rattle.edges.specs.held.Table.{stepWord, ringWords, wordsTo, tableOf}
+use Rattle.edges.specs.Order.{ascending}
 use Rattle.edges.specs.laws.Ascending.{length-ascending}
 use Rattle.shell.specs.held.Kept as S
-use Rattle.shell.specs.laws.EdgedLaws.{edged-built}
-use Rattle.shell.specs.laws.SoundLaws.{sound-ring}
+use Rattle.shell.specs.laws.EdgedLaws.{listed-built, edged-built}
 use Rattle.building.specs.declared.Scalars.{Scalars}
 use Rattle.building.specs.Tables.{loaded}
 use Rattle.building.specs.laws.Lists.{tab-ext, take-is-tab, map-tab}
 use Rattle.building.specs.held.Holds.{isBroken, Arrays, arrays, heldTables, heldBuilding, Loaded, Sizes, Found, Summed, Broken, Shown, Did}
 use Rattle.building.specs.laws.Findings.{Early, early-broken, broken-early, kept-number}
+use Rattle.building.specs.laws.Sound.{sound-of}
 use Rattle.renew.specs.held.Renewed.{keptAt, partAt}
 use Rattle.checks.specs.held.Steps.{Checked}
 use Rattle.checks.specs.held.Early.{isEarly, NoneEarly, EarlyAt}
@@ -75,12 +74,9 @@ module _ (l : List ℕ) (n : ℕ) where
       clash i n g h = omega arith
 
 -- ---- a ring that fails none of them is one that the shell's table takes
-sound-of : (ring : List ℕ) → isBroken ring ≡ false → S.Sound ring
-unfolding isBroken isShort isUnclosed isRepeated
-sound-of [] e = absurd (true≢false (none-of (isShort []) (isUnclosed []) (isRepeated []) e .0))
-sound-of (a ∷ l) e =
-    let n = none-of (isShort (a ∷ l)) (isUnclosed (a ∷ l)) (isRepeated (a ∷ l)) e in
-    sound-ring a l (n .0) (not-false (eqb a (lastOf a l)) (n .1)) (n .2)
+whole-sound : (ring : List ℕ) → isBroken ring ≡ false → S.Sound ring
+unfolding isBroken
+whole-sound ring e = let n = none-of (isShort ring) (isUnclosed ring) (isRepeated ring) e in sound-of ring (n .0) (n .1) (n .2)
 
 -- ---- the table keeps its size
 
@@ -139,7 +135,7 @@ module _ {points : List ℤ} {entries starts : List ℕ} {s : Scalars} (ld : Loa
         points = s .points;
         held = ld .entered;
         begin = ld .begins;
-        sound = λ p g. sound-of (ringAt entries starts p) (whole p g (isBroken (ringAt entries starts p)) refl);
+        sound = λ p g. whole-sound (ringAt entries starts p) (whole p g (isBroken (ringAt entries starts p)) refl);
       }
     where
       whole : (p : ℕ) → p < s .polygons → (b : Bool) → isBroken (ringAt entries starts p) ≡ b → b ≡ false
@@ -154,30 +150,6 @@ stamps-none entries starts n stamps h few =
     ∙ tab-ext (λ p. getD (zeroed stamps 256) p 0) (λ p. 0) n (λ p g. zeroed-all stamps h p)
     ∙ sym (map-tab (λ (r : List ℕ). 0) (ringAt entries starts) n)
 
--- an empty table belongs to no rings
-pub known-none : {points : List ℤ} {entries starts : List ℕ} {s : Scalars} → Loaded points entries starts s → (table turned : List ℕ) → ((p : ℕ) → getD turned p 0 ≡ 0) → S.Known table 0 turned (Few 0)
-unfolding S.turnedRings S.fixedShape rings tab wordsTo ascending first given
-known-none {entries = entries} {starts = starts} {s = s} ld table turned z =
-    record {
-      present = [];
-      edged = record {
-        entries = entries;
-        starts = starts;
-        polygons = 0;
-        loaded = record {
-          points = s .points;
-          held = record { size = ld .entered .size; few = ld .entered .few; below = λ i h. absurd (omega (arith, ld .first)) };
-          begin = record { size = ld .begins .size; few = omega arith; ordered = λ p q h g. let e : p ≡ q = omega arith in rw e (omega arith); inside = omega (arith, ld .first) };
-          sound = λ p h. absurd (omega arith);
-        };
-        flags = λ p. omega (arith, z p);
-        present = refl;
-        words = refl;
-        room = omega arith;
-        fixed-is = refl;
-      };
-    }
-
 module _ (a : Arrays) (s : Scalars) (ld : Loaded (a .points) (a .entries) (a .starts) s) (sz : Sizes a) where
   pub did-loaded : {findings' : List ℕ} {parts' : List ℤ} {stamps' turned' table' : List ℕ}
       → Checked (s .tolerance) (a .points) (a .entries) (a .starts) (s .polygons) (a .findings) (a .parts) findings' parts'
@@ -185,15 +157,16 @@ module _ (a : Arrays) (s : Scalars) (ld : Loaded (a .points) (a .entries) (a .st
       → turned' ≡ zeroed (a .turned) 256
       → length table' ≡ 1024
       → (edges : ℕ) (fixed shape : Shape)
+      → S.Listed (rings (a .entries) (a .starts) (s .polygons)) table' edges turned'
       → Broken (a .entries) (a .starts) (s .polygons) ⊎ S.Edged (rings (a .entries) (a .starts) (s .polygons)) table' edges turned' fixed
       → Shown table' edges turned' fixed shape
       → {r : Scalars} → r ≡ record { tolerance = s .tolerance; points = s .points; polygons = s .polygons; last = 0; edges = edges; fixed = fixed; shape = shape }
       → Did (loaded (heldTables (a .points) (a .entries) (a .starts) s)) (arrays (a .points) (a .entries) (a .starts) stamps' findings' parts' table' turned') r
   unfolding heldBuilding heldTables loaded
-  did-loaded {table' = table'} ch e f w edges fixed shape sh now g =
+  did-loaded {table' = table'} ch e f w edges fixed shape li sh now g =
       let fo = checked-found ld (sz .findings) (sz .parts) ch in
       let su = checked-summed ld (sz .findings) (sz .parts) ch in
-      let z : (p : ℕ) → getD (zeroed (a .turned) 256) p 0 ≡ 0 = zeroed-all (a .turned) (sz .turned) in
+      let li' : S.Listed (rings (a .entries) (a .starts) (s .polygons)) table' edges (zeroed (a .turned) 256) = rw f at li in
       let sh' : Broken (a .entries) (a .starts) (s .polygons) ⊎ S.Edged (rings (a .entries) (a .starts) (s .polygons)) table' edges (zeroed (a .turned) 256) fixed = rw f at sh in
       let now' : Shown table' edges (zeroed (a .turned) 256) fixed shape = rw f at now in
       rw (e, f, g)
@@ -206,7 +179,7 @@ module _ (a : Arrays) (s : Scalars) (ld : Loaded (a .points) (a .entries) (a .st
             summed = record { size = su .size; each = su .each };
             table-size = w;
             turned-size = length-upto (λ p old. 0) 0 (a .turned) 256 ∙ sz .turned;
-            flags = λ p. omega (arith, z p);
+            listed = li';
             shaped = sh';
             shown = now';
           };
@@ -214,7 +187,15 @@ module _ (a : Arrays) (s : Scalars) (ld : Loaded (a .points) (a .entries) (a .st
         is = rw (stamps-none (a .entries) (a .starts) (s .polygons) (a .stamps) (sz .stamps) (ld .begins .few));
       })
 
-  pub built-shaped : (room table' turned' : List ℕ) (count : ℕ) (fixed : Shape) → S.Loaded (a .entries) (a .starts) (s .polygons) → S.Built (a .entries) (a .starts) (s .polygons) room table' count fixed → turned' ≡ zeroed (a .turned) 256
-      → S.Edged (rings (a .entries) (a .starts) (s .polygons)) table' count turned' fixed
-  built-shaped room table' turned' count fixed l b e =
-      edged-built (a .entries) (a .starts) (s .polygons) room table' count turned' fixed l b (λ p. ap (λ (k : List ℕ). getD k p 0) e ∙ zeroed-all (a .turned) (sz .turned) p)
+  -- the table that was built belongs to the rings, and the verdict too where none is broken
+  module _ (room table' turned' : List ℕ) (count : ℕ) (sound : Bool) (fixed : Shape) (b : S.Built (a .entries) (a .starts) (s .polygons) room table' count sound fixed) (e : turned' ≡ zeroed (a .turned) 256) where
+    none-turned : (p : ℕ) → getD turned' p 0 ≡ 0
+    none-turned p = ap (λ (k : List ℕ). getD k p 0) e ∙ zeroed-all (a .turned) (sz .turned) p
+
+    pub built-listed : S.Listed (rings (a .entries) (a .starts) (s .polygons)) table' count turned'
+    built-listed = listed-built (a .entries) (a .starts) (s .polygons) room table' count turned' sound fixed b none-turned (ld .entered .size) (ld .begins)
+
+    pub built-shaped : (sound ≡ true → S.Loaded (a .entries) (a .starts) (s .polygons)) → (sound ≡ false → Broken (a .entries) (a .starts) (s .polygons))
+        → Broken (a .entries) (a .starts) (s .polygons) ⊎ S.Edged (rings (a .entries) (a .starts) (s .polygons)) table' count turned' fixed
+    built-shaped whole broken =
+        cases sound (λ t. inr (edged-built (a .entries) (a .starts) (s .polygons) room table' count turned' sound fixed b none-turned t (whole t))) (λ t. inl (broken t))

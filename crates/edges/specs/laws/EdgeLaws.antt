@@ -33,7 +33,7 @@ pub larger-edge : (a b : ℕ) → a < 65536 → b < 65536 → larger (edge a b) 
 unfolding larger edge way
 larger-edge a b h g = omega arith
 
-edge-sym : (a b : ℕ) → edge a b ≡ edge b a
+pub edge-sym : (a b : ℕ) → edge a b ≡ edge b a
 unfolding edge way
 edge-sym a b =
     let p : min a b ≡ min b a = omega arith in

@@ -13,7 +13,7 @@ use lib.IntN.{pos, negsuc}
 use lib.ListN.{length, take, drop, getD, length-drop, drop-of-length-le, take-append-drop}
 use lib.Seq.{append-snoc, length-take-le, take-suc}
 use Rattle.hex.specs.Hex.{isHex, allHex, digitValue, numberFrom, number, signed32, digit, digits, bits32}
-use Rattle.frame.specs.Frame.{begin, point, polygon, end-of-load, move, turn, question, broken, Kind, kindOf, kindNamed, fits, unsigned, coordinate, numbers, filled, decode}
+use Rattle.frame.specs.Frame.{begin, point, polygon, end-of-load, move, turn, question, across, broken, Kind, kindOf, kindNamed, fits, unsigned, coordinate, numbers, filled, decode}
 use Rattle.frame.specs.Encode.{fourEach, eight, encode}
 use Rattle.whole.specs.laws.Bools.{and-left, and-right, or-cases}
 use Rattle.hex.specs.laws.Back.{numberFrom-append}
@@ -143,6 +143,7 @@ kindNumber Kind.end-of-load = 4
 kindNumber Kind.move = 5
 kindNumber Kind.turn = 6
 kindNumber Kind.question = 7
+kindNumber Kind.across = 12
 kindNumber Kind.unknown = 0
 
 Named : ℕ → Kind → Type 0
@@ -160,7 +161,7 @@ kind-named : (n : ℕ) → Named n (kindOf n)
 unfolding kindOf kindNumber Named
 kind-named n =
     named-or n 1 Kind.begin _ refl (named-or n 2 Kind.point _ refl (named-or n 3 Kind.polygon _ refl (named-or n 4 Kind.end-of-load _ refl
-    (named-or n 5 Kind.move _ refl (named-or n 6 Kind.turn _ refl (named-or n 7 Kind.question _ refl (inl refl)))))))
+    (named-or n 5 Kind.move _ refl (named-or n 6 Kind.turn _ refl (named-or n 7 Kind.question _ refl (named-or n 12 Kind.across _ refl (inl refl))))))))
 
 -- ---- lines
 
@@ -208,6 +209,14 @@ module _ (l : List ℕ) (h : allHex l ≡ true) where
   filled-back Kind.question f e =
       let g : length l ≡ 6 = eqb-true (length l) 6 f in
       kind-back 7 _ e (omega arith) (last-back 4 (drop 2 l) (allHex-drop 2 l h) (after 6 g))
+  filled-back Kind.across f e =
+      let g : length l ≡ 10 = eqb-true (length l) 10 f in
+      let h₁ : allHex (drop 2 l) ≡ true = allHex-drop 2 l h in
+      let g₁ : length (drop 2 l) ≡ 8 = after 10 g in
+      let g₂ : length (drop 4 (drop 2 l)) ≡ length (drop 2 l) - 4 = length-drop 4 (drop 2 l) in
+      kind-back 12 _ e (omega arith)
+      (field-back 4 (drop 2 l) h₁ _ (omega arith)
+      (last-back 4 (drop 4 (drop 2 l)) (allHex-drop 4 (drop 2 l) h₁) (omega arith)))
   filled-back Kind.unknown f e = absurd (false≢true f)
 
 known : (k : Kind) (n m : ℕ) → fits k m ≡ true → Named n k → n ≡ kindNumber k

@@ -9,11 +9,11 @@ use lib.IntN.{ℤ}
 use lib.ListN.{length, take, drop, getD, length-drop}
 use lib.Seq.{drop-drop}
 use Rattle.hex.specs.Hex.{allHex, number, signed32}
-use Rattle.frame.specs.Frame.{Frame, begin, point, polygon, end-of-load, move, turn, question, broken, Kind, kindOf, kindNamed, fits, unsigned, coordinate, numbers, filled, decode}
+use Rattle.frame.specs.Frame.{Frame, begin, point, polygon, end-of-load, move, turn, question, across, broken, Kind, kindOf, kindNamed, fits, unsigned, coordinate, numbers, filled, decode}
 use Rattle.whole.specs.laws.Bools.{and-left, and-false}
 use Rattle.frame.specs.laws.RoundTrip.{numbers-few, decode-well}
 use Rattle.frame.specs.declared.Fields.{Fields}
-use Rattle.frame.specs.declared.Fields.the-variants.{Begin, Point, Polygon, EndOfLoad, Move, Turn, Question, Broken}
+use Rattle.frame.specs.declared.Fields.the-variants.{Begin, Point, Polygon, EndOfLoad, Move, Turn, Question, Across, Broken}
 use Rattle.frame.specs.held.Meaning.{counted, meaning, Listed, shaped}
 
 -- ---- point numbers
@@ -99,6 +99,12 @@ module _ (l : List ℕ) where
       let a : drop 8 (drop 2 l) ≡ drop 10 l = drop-drop 8 2 l in
       (λ i. turn (d i) (e i)) ∙ ap (λ (k : List ℕ). turn (field-of 8 2 l) (number (take 4 k))) (sym a) ∙ shaped-filled Kind.turn l (eq-eqb (length l) 14 h)
 
+  pub across-is : {m n : ℕ} → length l ≡ 10 → m ≡ field-of 4 2 l → n ≡ field-of 4 6 l → across m n ≡ shaped Kind.across l
+  unfolding fits filled unsigned
+  across-is h d e =
+      let a : drop 4 (drop 2 l) ≡ drop 6 l = drop-drop 4 2 l in
+      (λ i. across (d i) (e i)) ∙ ap (λ (k : List ℕ). across (field-of 4 2 l) (number (take 4 k))) (sym a) ∙ shaped-filled Kind.across l (eq-eqb (length l) 10 h)
+
   pub move-is : {n p : ℕ} {x y z : ℤ} → length l ≡ 38 → n ≡ field-of 8 2 l → p ≡ field-of 4 10 l
       → x ≡ coordinate-of 14 l → y ≡ coordinate-of 22 l → z ≡ coordinate-of 30 l → move n p x y z ≡ shaped Kind.move l
   unfolding fits filled unsigned
@@ -140,6 +146,7 @@ short-fits Kind.end-of-load n h = ne-eqb n 2 (λ e. omega arith)
 short-fits Kind.move n h = ne-eqb n 38 (λ e. omega arith)
 short-fits Kind.turn n h = ne-eqb n 14 (λ e. omega arith)
 short-fits Kind.question n h = ne-eqb n 6 (λ e. omega arith)
+short-fits Kind.across n h = ne-eqb n 10 (λ e. omega arith)
 short-fits Kind.unknown n h = refl
 
 module _ (l : List ℕ) where
@@ -169,10 +176,10 @@ module _ (l : List ℕ) where
   unfolding shaped fits
   decode-unknown h e g = decode-kind Kind.unknown h e g
 
-pub kind-unknown : (n : ℕ) → (n ≡ 1 → ⊥) → (n ≡ 2 → ⊥) → (n ≡ 3 → ⊥) → (n ≡ 4 → ⊥) → (n ≡ 5 → ⊥) → (n ≡ 6 → ⊥) → (n ≡ 7 → ⊥) → kindOf n ≡ Kind.unknown
+pub kind-unknown : (n : ℕ) → (n ≡ 1 → ⊥) → (n ≡ 2 → ⊥) → (n ≡ 3 → ⊥) → (n ≡ 4 → ⊥) → (n ≡ 5 → ⊥) → (n ≡ 6 → ⊥) → (n ≡ 7 → ⊥) → (n ≡ 12 → ⊥) → kindOf n ≡ Kind.unknown
 unfolding kindOf
-kind-unknown n a b c d e f g =
-    rw (ne-eqb n 1 a, ne-eqb n 2 b, ne-eqb n 3 c, ne-eqb n 4 d, ne-eqb n 5 e, ne-eqb n 6 f, ne-eqb n 7 g)
+kind-unknown n a b c d e f g h =
+    rw (ne-eqb n 1 a, ne-eqb n 2 b, ne-eqb n 3 c, ne-eqb n 4 d, ne-eqb n 5 e, ne-eqb n 6 f, ne-eqb n 7 g, ne-eqb n 12 h)
 
 -- ---- the frame of a line settles the decoder's answer
 
@@ -184,6 +191,7 @@ fieldsOf end-of-load = EndOfLoad
 fieldsOf (move n p x y z) = Move n p x y z
 fieldsOf (turn n p) = Turn n p
 fieldsOf (question p) = Question p
+fieldsOf (across a b) = Across a b
 fieldsOf broken = Broken
 
 fields-back : (r : Fields) (l : List ℕ) → fieldsOf (meaning r l) ≡ r
@@ -195,6 +203,7 @@ fields-back EndOfLoad l = refl
 fields-back (Move n p x y z) l = refl
 fields-back (Turn n p) l = refl
 fields-back (Question p) l = refl
+fields-back (Across a b) l = refl
 fields-back Broken l = refl
 
 pub meaning-tells : (r s : Fields) (l : List ℕ) → meaning r l ≡ meaning s l → r ≡ s
@@ -215,6 +224,7 @@ filled-ring Kind.end-of-load ring l e = cc
 filled-ring Kind.move ring l e = cc
 filled-ring Kind.turn ring l e = cc
 filled-ring Kind.question ring l e = cc
+filled-ring Kind.across ring l e = cc
 filled-ring Kind.unknown ring l e = cc
 
 decode-ring : (ring l : List ℕ) → polygon ring ≡ decode l → (allHex l ≡ true) × (ring ≡ numbers (drop 2 l))

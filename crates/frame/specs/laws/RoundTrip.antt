@@ -10,7 +10,7 @@ use lib.IntN.{ℤ}
 use Rattle.whole.specs.laws.Bools.{and-left, and-right}
 use Rattle.whole.specs.All.{All, none, more}
 use Rattle.hex.specs.Hex.{allHex, number, signed32, digits, bits32, hex-computes}
-use Rattle.frame.specs.Frame.{Frame, begin, point, polygon, end-of-load, move, turn, question, broken, Kind, kindOf, kindNamed, fits, unsigned, coordinate, numbers, filled, decode}
+use Rattle.frame.specs.Frame.{Frame, begin, point, polygon, end-of-load, move, turn, question, across, broken, Kind, kindOf, kindNamed, fits, unsigned, coordinate, numbers, filled, decode}
 use Rattle.frame.specs.Encode.{fourEach, eight, encode}
 use Rattle.hex.specs.laws.Back.{allHex-append, allHex-digits, length-digits, number-digits, Fits32, bits32-small, signed32-bits32}
 
@@ -49,6 +49,7 @@ allHex-encode (move number n x y z) =
     (allHex-field 8 number (digits 4 n ++ (eight x ++ (eight y ++ eight z))) (allHex-field 4 n (eight x ++ (eight y ++ eight z)) (allHex-place x y z)))
 allHex-encode (turn number n) = allHex-field 2 6 (digits 8 number ++ digits 4 n) (allHex-field 8 number (digits 4 n) (allHex-digits 4 n))
 allHex-encode (question n) = allHex-field 2 7 (digits 4 n) (allHex-digits 4 n)
+allHex-encode (across a b) = allHex-field 2 12 (digits 4 a ++ digits 4 b) (allHex-field 4 a (digits 4 b) (allHex-digits 4 b))
 allHex-encode broken = refl
 
 decode-encoded : (f : Frame) → fits (kindNamed (encode f)) (length (encode f)) ≡ true → decode (encode f) ≡ filled (kindNamed (encode f)) (drop 2 (encode f))
@@ -84,6 +85,10 @@ pub decode-question : (n : ℕ) → n < 65536 → decode (encode (question n)) �
 unfolding encode hex-computes kindNamed kindOf fits filled unsigned
 decode-question n h = decode-encoded (question n) refl ∙ ap question (number-digits 4 n h)
 
+pub decode-across : (a b : ℕ) → a < 65536 → b < 65536 → decode (encode (across a b)) ≡ across a b
+unfolding encode hex-computes kindNamed kindOf fits filled unsigned
+decode-across a b h g = decode-encoded (across a b) refl ∙ (λ i. across (number-digits 4 a h i) (number-digits 4 b g i))
+
 pub length-fourEach : (l : List ℕ) → length (fourEach l) ≡ 4 * length l
 unfolding fourEach
 length-fourEach [] = refl
@@ -113,6 +118,7 @@ Encodable end-of-load = Unit {0}
 Encodable (move number n x y z) = (number < 4294967296) × ((n < 65536) × (Fits32 x × (Fits32 y × Fits32 z)))
 Encodable (turn number n) = (number < 4294967296) × (n < 65536)
 Encodable (question n) = n < 65536
+Encodable (across a b) = (a < 65536) × (b < 65536)
 Encodable broken = ⊥
 
 -- what a host writes is what the checker reads
@@ -124,6 +130,7 @@ decode-encode end-of-load h = decode-end
 decode-encode (move number n x y z) h = decode-move x y z (h .1 .1 .0) (h .1 .1 .1 .0) (h .1 .1 .1 .1) number n (h .0) (h .1 .0)
 decode-encode (turn number n) h = decode-turn number n (h .0) (h .1)
 decode-encode (question n) h = decode-question n h
+decode-encode (across a b) h = decode-across a b (h .0) (h .1)
 decode-encode broken h = absurd h
 
 -- ---- what a line can say
@@ -137,6 +144,7 @@ WellFormed end-of-load = Unit {0}
 WellFormed (move number n x y z) = Unit {0}
 WellFormed (turn number n) = Unit {0}
 WellFormed (question n) = Unit {0}
+WellFormed (across a b) = Unit {0}
 WellFormed broken = Unit {0}
 
 pub numbers-few : (l : List ℕ) → 4 * length (numbers l) ≤ length l
@@ -160,6 +168,7 @@ filled-well Kind.end-of-load l e = tt
 filled-well Kind.move l e = tt
 filled-well Kind.turn l e = tt
 filled-well Kind.question l e = tt
+filled-well Kind.across l e = tt
 filled-well Kind.unknown l e = tt
 
 pub decode-well : (l : List ℕ) → WellFormed (decode l)

@@ -119,7 +119,7 @@ module _ (a : Arrays) (s : Scalars) (hd : Held a s) (number n : ℕ) (p : Point)
             summed = record { size = su .size; each = su .each };
             table-size = kp .table-size;
             turned-size = kp .turned-size;
-            flags = kp .flags;
+            listed = kp .listed;
             shaped = kp .shaped;
             shown = kp .shown;
           };

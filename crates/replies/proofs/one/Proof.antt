@@ -1,6 +1,7 @@
 -- `replies::one` meets its contract.
 use mir.Syntax.{w64}
 use Rattle.desk.specs.laws.Dids.{did-refused}
+use Rattle.across.specs.laws.Dids.{valid-sorted}
 use Rattle.replies.specs.laws.Loop.{did-step}
 use Rattle.desk.specs.held.Holds.{service}
 use Rattle.service.specs.laws.Handlers.{of-broken}
@@ -76,6 +77,15 @@ cast-n-3 c = search needs
 
 ask-requires : tie.Need-ask-requires
 ask-requires c κs = search needs
+
+enum-known-f-7 : tie.Need-enum-known-f-7
+enum-known-f-7 c = search needs
+
+ask-requires-2 : tie.Need-ask-requires-2
+ask-requires-2 c κs =
+    let s = c .before .before .before .before .before .before .before .before in
+    let g = s .args in
+    (s .pre .0, valid-sorted (arrays (g .points .now) (g .entries .now) (g .starts .now) (g .stamps .now) (g .findings .now) (g .parts .now) (g .table .now) (g .turned .now)) (g .d) (s .pre .1))
 
 enum-told-2 : tie.Need-enum-told-2
 enum-told-2 c = search needs
@@ -168,8 +178,19 @@ same-length-8 : tie.Need-same-length-8
 same-length-8 c = search needs
 
 returns-8 : tie.Need-returns-8
-unfolding meaning isAccepted
+unfolding meaning
 returns-8 c =
+    let g = c .before .before .before .before .before .before .before .before .before .before .before .args in
+    let v = c .before .before .before .before .before .before .before .before .before .before .before .pre .1 in
+    let w : Arrays = arrays (g .points .now) (g .entries .now) (g .starts .now) (g .stamps .now) (g .findings .now) (g .parts .now) (g .table .now) (g .turned .now) in
+    did-step (service w (g .d)) (g .line .now) _ (g .room .now) _ (g .d .at) _ _ (sym (ap (λ (q : Fields). meaning q (g .line .now)) (c .before .before .before .before .before .before .f7 .given .1)) ∙ c .before .before .before .before .before .before .before .before .decode .ensures) (c .before .before .ask2 .ensures w refl v)
+
+same-length-9 : tie.Need-same-length-9
+same-length-9 c = search needs
+
+returns-9 : tie.Need-returns-9
+unfolding meaning isAccepted
+returns-9 c =
     let g = c .before .before .before .before .before .before .before .before .before .args in
     let v = c .before .before .before .before .before .before .before .before .before .pre .1 in
     let w : Arrays = arrays (g .points .now) (g .entries .now) (g .starts .now) (g .stamps .now) (g .findings .now) (g .parts .now) (g .table .now) (g .turned .now) in
@@ -198,6 +219,8 @@ one-spec =
     enum-known-f-6
     cast-n-3
     ask-requires
+    enum-known-f-7
+    ask-requires-2
     enum-told-2
     refuse-requires
     same-length
@@ -215,4 +238,6 @@ one-spec =
     same-length-7
     returns-7
     same-length-8
-    returns-8)
+    returns-8
+    same-length-9
+    returns-9)

@@ -26,6 +26,7 @@ use Rattle.shell.specs.declared.Shape.{Shape}
 use Rattle.shell.specs.held.Held.{ringAt, rings}
 use Rattle.shell.specs.Shell.{shape, shapeNumber}
 use Rattle.shell.specs.held.Kept.{Edged}
+use Rattle.directions.specs.laws.Now.{now-is}
 use Rattle.building.specs.declared.Scalars.{Scalars}
 use Rattle.building.specs.declared.Verdict.{Verdict}
 use Rattle.building.specs.declared.Verdict.the-variants.{Accepted, Faulty, Unsound, Inward}
@@ -243,7 +244,7 @@ module _ {points : List ℤ} {entries starts : List ℕ} {s : Scalars} (ld : Loa
 
     -- what is kept of the shape is that of the present rings
     told-shape : s .shape ≡ shape (rings entries starts (s .polygons))
-    told-shape = kp .shown .is (rings entries starts (s .polygons)) told-edged
+    told-shape = kp .shown ∙ now-is (rings entries starts (s .polygons)) table (s .edges) turned (s .fixed) told-edged
 
     module _ {number : ℕ} (n : number ≡ shapeNumber (s .shape)) where
       pub says-unsound : (number ≡ 0 → ⊥) → Unsound (s .shape) ≡ verdict (heldTables points entries starts s)

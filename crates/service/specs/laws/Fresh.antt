@@ -12,7 +12,7 @@ use Rattle.whole.specs.Lists.{given, first, any}
 use Rattle.whole.specs.laws.Bools.{or-left, or-right}
 use Rattle.whole.specs.All.{All, none, more}
 use Rattle.whole.specs.laws.Alls.{all-imp, any-none, none-any}
-use Rattle.frame.specs.Frame.{Frame, begin, point, polygon, end-of-load, move, turn, question, broken, decode}
+use Rattle.frame.specs.Frame.{Frame, begin, point, polygon, end-of-load, move, turn, question, across, broken, decode}
 use Rattle.frame.specs.Encode.{encode}
 use Rattle.hex.specs.laws.Back.{Fits32, above, below}
 use Rattle.frame.specs.laws.RoundTrip.{decode-begin, decode-end, decode-point, decode-polygon, WellFormed, decode-well}
@@ -93,6 +93,7 @@ takes-sound nothing (turn number n) s w p = absurd (true≢false (p .placed))
 takes-sound (loading t) (turn number n) s w p = absurd (true≢false (p .placed))
 takes-sound (holding b) (turn number n) (hold ok) w p = hold (loadable-turned b ok number n)
 takes-sound st (question n) s w p = s
+takes-sound st (across m n) s w p = s
 takes-sound st broken s w p = s
 
 -- every state that lines bring about
@@ -241,6 +242,7 @@ reports st end-of-load e s = absurd (false≢true e)
 reports st (move number n x y z) e s = sym (fresh-is _ (held-loadable s))
 reports st (turn number n) e s = sym (fresh-is _ (held-loadable s))
 reports st (question n) e s = absurd (false≢true e)
+reports st (across m n) e s = absurd (false≢true e)
 reports st broken e s = absurd (false≢true e)
 
 -- an accepted correction answers what a fresh load of the tables after it answers at its end

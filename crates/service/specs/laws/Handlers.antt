@@ -3,11 +3,11 @@ use Prim.Native.Nat.{ℕ, _+_}
 use mathlib.Core.Path.{_≡_, refl}
 use mathlib.Core.Bool.{_||_}
 use mathlib.Core.List.{List, [], _∷_}
-use lib.Dec.{leb, ltb}
+use lib.Dec.{eqb, leb, ltb}
 use lib.ListN.{length}
 use lib.IntN.{ℤ}
 use Rattle.whole.specs.Lists.{given, first, any}
-use Rattle.frame.specs.Frame.{begin, point, polygon, end-of-load, move, turn, question, broken}
+use Rattle.frame.specs.Frame.{begin, point, polygon, end-of-load, move, turn, question, across, broken}
 use Rattle.places.specs.Points.{isFar, stands, standsElse}
 use Rattle.building.specs.Tables.{Tables, Building, entries}
 use Rattle.service.specs.declared.Refusal.the-variants.{Accepted, Malformed, Beyond, Full, Absent, Taken, Late}
@@ -49,3 +49,7 @@ module _ (b : Building) where
   pub of-question : (n : ℕ) → refusal (holding b) (question n) ≡ first Accepted (given (leb (length (b .tables .polygons)) n) Absent ∷ [])
   unfolding service-computes first given
   of-question n = refl
+
+  pub of-across : (m n : ℕ) → refusal (holding b) (across m n) ≡ first Accepted (given (leb (length (b .tables .points)) m || leb (length (b .tables .points)) n || eqb m n) Absent ∷ [])
+  unfolding service-computes first given
+  of-across m n = refl

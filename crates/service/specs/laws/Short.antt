@@ -6,13 +6,14 @@ use lib.ListN.{length, length-append}
 use lib.IntN.{ℤ}
 use Rattle.hex.specs.Hex.{digits}
 use Rattle.lines.specs.Lines.{lines, ended}
-use Rattle.frame.specs.Frame.{Frame, begin, point, polygon, end-of-load, move, turn, question, broken, decode}
+use Rattle.frame.specs.Frame.{Frame, begin, point, polygon, end-of-load, move, turn, question, across, broken, decode}
 use Rattle.answer.specs.Answer.{plain, reported, told}
 use Rattle.hex.specs.laws.Back.{length-digits}
 use Rattle.service.specs.declared.Refusal.{Refusal}
 use Rattle.service.specs.declared.Refusal.the-variants.{Accepted, Malformed, Misplaced, Beyond, Full, Absent, Taken, Late}
-use Rattle.service.specs.Service.{State, nothing, reportOf, toldOf, answerTo, outcome, refusal, step}
+use Rattle.service.specs.Service.{State, nothing, reportOf, toldOf, acrossOf, answerTo, outcome, refusal, step}
 use Rattle.service.specs.Stream.{run, answers}
+use Rattle.answer.specs.Answer as Answer
 
 length-plain : (n : ℕ) → length (plain n) ≤ 32
 unfolding plain
@@ -26,8 +27,12 @@ length-told : (finding position stamp : ℕ) (part : ℤ) → length (told findi
 unfolding told digits
 length-told finding position stamp part = omega arith
 
+length-across : (users lowest second : ℕ) → length (Answer.across users lowest second) ≤ 32
+unfolding Answer.across digits
+length-across users lowest second = omega arith
+
 length-answer : (f : Frame) (st : State) → length (answerTo f st) ≤ 32
-unfolding answerTo reportOf toldOf
+unfolding answerTo reportOf toldOf acrossOf
 length-answer (begin t) st = length-plain 0
 length-answer (point x y z) st = length-plain 0
 length-answer (polygon ring) st = length-plain 0
@@ -35,6 +40,7 @@ length-answer end-of-load st = length-reported _ _ _ _ _
 length-answer (move number n x y z) st = length-reported _ _ _ _ _
 length-answer (turn number n) st = length-reported _ _ _ _ _
 length-answer (question n) st = length-told _ _ _ _
+length-answer (across m n) st = length-across _ _ _
 length-answer broken st = length-plain 0
 
 length-outcome : (r : Refusal) (st : State) (f : Frame) → length (outcome r st f .answer) ≤ 32

@@ -1,8 +1,8 @@
--- What is kept of the shape from end of load on: the table, a flag for each polygon that stands turned, and the verdict of all
--- checks but 0A, which alone changes by turns.
+-- What is kept of the edges from end of load on: the table, a flag for each polygon that stands turned, and, where each ring passes 01 to
+-- 03, the verdict of all checks but 0A, which alone changes by turns.
 use Prim.Native.Nat.{ℕ, zero, suc, _+_, _-_, _%_, _≤_, _<_}
 use mathlib.Core.Path.{_≡_}
-use mathlib.Core.Bool.{Bool, true, false}
+use mathlib.Core.Bool.{Bool, true, false, cond}
 use mathlib.Core.List.{List, [], _∷_, reverse}
 use mathlib.Core.Option.{Option, none, some, Option·map}
 use lib.Dec.{eqb, ltb}
@@ -14,7 +14,8 @@ use Rattle.edges.specs.Edges.{usedOnce, usedOften}
 use Rattle.shell.specs.Shell.{byEnds, notReached, notLinked}
 use Rattle.shell.specs.held.Held.{ringAt, rings, Starts, Entries}
 use Rattle.words.specs.held.Words.{keyOf, polyOf, dirOf}
-use Rattle.edges.specs.held.Table.{wordsTo, tableOf, ascending}
+use Rattle.edges.specs.held.Table.{wordsTo, tableOf}
+use Rattle.edges.specs.Order.{ascending}
 
 -- a ring that passes checks 01, 02 and 03
 pub record Sound (ring : List ℕ) : Type 0 where
@@ -77,11 +78,12 @@ pub record Table (entries starts : List ℕ) (n : ℕ) (words : List ℕ) : Type
   pub loaded : Loaded entries starts n
   pub words-are : words ≡ ascending (wordsTo entries starts n)
 
--- what end of load leaves: the table, the number of its words, and the verdict that turns do not change
-pub record Built (entries starts : List ℕ) (n : ℕ) (room table : List ℕ) (count : ℕ) (fixed : Shape) : Type 0 where
+-- what end of load leaves: the table, the number of its words, and the verdict that turns do not change; where some ring is not sound
+-- there is none to tell, and `Few 0` stands in for it
+pub record Built (entries starts : List ℕ) (n : ℕ) (room table : List ℕ) (count : ℕ) (sound : Bool) (fixed : Shape) : Type 0 where
   pub table-is : table ≡ tableOf entries starts n room
   pub count-is : count ≡ length (wordsTo entries starts n)
-  pub fixed-is : fixed ≡ fixedShape (rings entries starts n)
+  pub fixed-is : fixed ≡ cond sound (fixedShape (rings entries starts n)) (Few 0)
 
 -- a ring under its flag
 unfoldable pub turn : ℕ → List ℕ → List ℕ
@@ -92,19 +94,20 @@ turn (suc k) ring = reverse ring
 unfoldable pub turnedRings : List ℕ → List ℕ → ℕ → List ℕ → List (List ℕ)
 turnedRings entries starts n turned = tab (λ p. turn (getD turned p 0) (ringAt entries starts p)) n
 
--- the table, its number of words, the flags and the verdict belong to the present rings rs
-pub record Edged (rs : List (List ℕ)) (table : List ℕ) (count : ℕ) (turned : List ℕ) (fixed : Shape) : Type 0 where
+-- the table, its number of words and the flags belong to the present rings rs, whatever the rings' findings
+pub record Listed (rs : List (List ℕ)) (table : List ℕ) (count : ℕ) (turned : List ℕ) : Type 0 where
   pub entries : List ℕ
   pub starts : List ℕ
   pub polygons : ℕ
-  pub loaded : Loaded entries starts polygons
+  pub size : length entries ≡ 1024
+  pub begin : Starts starts polygons
   pub flags : (p : ℕ) → getD turned p 0 ≤ 1
   pub present : rs ≡ turnedRings entries starts polygons turned
   pub words : take count table ≡ ascending (wordsTo entries starts polygons)
   pub room : count ≤ length table
-  pub fixed-is : fixed ≡ fixedShape (rings entries starts polygons)
 
--- they belong to some rings
-pub record Known (table : List ℕ) (count : ℕ) (turned : List ℕ) (fixed : Shape) : Type 0 where
-  pub present : List (List ℕ)
-  pub edged : Edged present table count turned fixed
+-- and so does the verdict, where each ring is sound
+pub record Edged (rs : List (List ℕ)) (table : List ℕ) (count : ℕ) (turned : List ℕ) (fixed : Shape) : Type 0 where
+  pub listed : Listed rs table count turned
+  pub loaded : Loaded (listed .entries) (listed .starts) (listed .polygons)
+  pub fixed-is : fixed ≡ fixedShape (rings (listed .entries) (listed .starts) (listed .polygons))

@@ -17,7 +17,8 @@ use Rattle.edges.specs.held.Ascending.{In}
 use Rattle.whole.specs.laws.Places.{tab-length, tab-at}
 use Rattle.shell.specs.held.Held.{ringAt, rings}
 use Rattle.words.specs.held.Words.{keyOf, polyOf}
-use Rattle.edges.specs.held.Table.{wordsTo, ascending, stepWord}
+use Rattle.edges.specs.held.Table.{wordsTo, stepWord}
+use Rattle.edges.specs.Order.{ascending}
 use Rattle.shell.specs.held.Kept.{Loaded}
 use Rattle.edges.specs.laws.Tallies.{in-tally, in-place, place-in}
 use Rattle.edges.specs.laws.Ascending.{asc-ascending, tally-ascending, in-ascending, ascending-in}

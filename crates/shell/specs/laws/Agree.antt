@@ -3,6 +3,7 @@ use Prim.Native.Nat.{ℕ, _≤_, _<_}
 use native.Mathlib.Decide.{decLt}
 use native.Mathlib.Omega.{arith}
 use mathlib.Core.Path.{_≡_, sym, subst, _∙_}
+use mathlib.Core.Bool.{Bool}
 use mathlib.Core.Logic.{by-cases}
 use mathlib.Core.List.{List}
 use mathlib.Core.Option.{none, some, Option·some-injective, Option·none-ne-some}
@@ -10,19 +11,15 @@ use Rattle.whole.specs.laws.Agree.{agree}
 use Rattle.shell.specs.declared.Shape.{Shape}
 use Rattle.edges.specs.Edges.{usedOnce, usedOften}
 use Rattle.links.specs.held.Linking.{Unlinks}
-use Rattle.shell.specs.Shell.{shape, notLinked}
+use Rattle.shell.specs.Shell.{notLinked}
 use Rattle.shell.specs.held.Held.{rings}
-use Rattle.shell.specs.held.Kept.{Loaded, Built, Edged, Known, Table}
+use Rattle.shell.specs.held.Kept.{Loaded, Built, Table}
 use Rattle.shell.specs.laws.Across.{all-pairs}
 use Rattle.shell.specs.laws.Corner.{unlinked-found, unlinked-missing}
 
 -- `built`: the array, the count and the verdict
-pub built-agree : (es st : List ℕ) (n : ℕ) (room t t′ : List ℕ) (k k′ : ℕ) (f f′ : Shape) → Built es st n room t k f → Built es st n room t′ k′ f′ → (t ≡ t′) × (k ≡ k′) × (f ≡ f′)
-built-agree es st n room t t′ k k′ f f′ a b = (agree (a .table-is) (b .table-is), agree (a .count-is) (b .count-is), agree (a .fixed-is) (b .fixed-is))
-
--- `directions::shape_now`: the shape
-pub shape-now-agree : (t : List ℕ) (k : ℕ) (flags : List ℕ) (f r r′ : Shape) → Known t k flags f → ((rs : List (List ℕ)) → Edged rs t k flags f → r ≡ shape rs) → ((rs : List (List ℕ)) → Edged rs t k flags f → r′ ≡ shape rs) → r ≡ r′
-shape-now-agree t k flags f r r′ h a b = agree (a (h .present) (h .edged)) (b (h .present) (h .edged))
+pub built-agree : (es st : List ℕ) (n : ℕ) (room t t′ : List ℕ) (k k′ : ℕ) (s : Bool) (f f′ : Shape) → Built es st n room t k s f → Built es st n room t′ k′ s f′ → (t ≡ t′) × (k ≡ k′) × (f ≡ f′)
+built-agree es st n room t t′ k k′ s f f′ a b = (agree (a .table-is) (b .table-is), agree (a .count-is) (b .count-is), agree (a .fixed-is) (b .fixed-is))
 
 -- `links::unlinked`, of the words of loaded rings: where each edge is used twice, the point
 module _ (es st : List ℕ) (n : ℕ) (ws : List ℕ) (t : Table es st n ws) (once : usedOnce (rings es st n) ≡ none) (often : usedOften (rings es st n) ≡ none) where

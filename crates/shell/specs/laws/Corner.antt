@@ -19,7 +19,8 @@ use Rattle.shell.specs.Shell.{notLinked}
 use Rattle.edges.specs.held.Ascending.{In}
 use Rattle.shell.specs.held.Held.{ringAt, rings}
 use Rattle.words.specs.held.Words.{keyOf, polyOf, stepOf, nextOf, dirOf}
-use Rattle.edges.specs.held.Table.{nextAt, wordsTo, ascending}
+use Rattle.edges.specs.held.Table.{nextAt, wordsTo}
+use Rattle.edges.specs.Order.{ascending}
 use Rattle.shell.specs.held.Kept.{Loaded}
 use Rattle.edges.specs.laws.Tallies.{in-place, place-in}
 use Rattle.reach.specs.held.Marking.{Joined, Marked, Marks, Flooded}

@@ -15,7 +15,7 @@ use Rattle.whole.specs.Lists.{steps, stepsFrom, tab}
 use Rattle.edges.specs.Edges.{edge, way, edgesOf, waysOf, all}
 use Rattle.edges.specs.held.Ascending.{In}
 use Rattle.edges.specs.laws.Tallies.{in-left, in-right, in-either}
-use Rattle.shell.specs.held.Held.{ringAt, rings}
+use Rattle.shell.specs.held.Held.{ringAt, rings, Starts}
 use Rattle.words.specs.held.Words.{keyOf, polyOf, stepOf, nextOf, dirOf}
 use Rattle.edges.specs.held.Table.{wordOf, stepWord, nextAt, span, ringWords, wordsTo}
 use Rattle.shell.specs.held.Kept.{Loaded}
@@ -24,10 +24,10 @@ use Rattle.edges.specs.held.Steps.{Rising}
 
 -- ---- the fields of a word
 module _ (e p s t d : ℕ) (hp : p < 256) (hs : s < 1024) (ht : t < 1024) (hd : d < 2) where
-  word-key : ((((e * 256 + p) * 1024 + s) * 1024 + t) * 2 + d) / 536870912 ≡ e
+  pub word-key : ((((e * 256 + p) * 1024 + s) * 1024 + t) * 2 + d) / 536870912 ≡ e
   word-key = omega arith
 
-  word-poly : ((((e * 256 + p) * 1024 + s) * 1024 + t) * 2 + d) / 2097152 % 256 ≡ p
+  pub word-poly : ((((e * 256 + p) * 1024 + s) * 1024 + t) * 2 + d) / 2097152 % 256 ≡ p
   word-poly = omega arith
 
   word-step : ((((e * 256 + p) * 1024 + s) * 1024 + t) * 2 + d) / 2048 % 1024 ≡ s
@@ -92,17 +92,14 @@ unfolding steps
 steps-part es n i h = ap (λ (l : List ℕ). steps (take (suc n) l)) (drop-cons es i 0 (omega arith)) ∙ steps-from es n i h
 
 -- ---- the rings of loaded arrays
-pub rising : (es st : List ℕ) (n : ℕ) → Loaded es st n → Rising es st n
-rising es st n l = record {
-  size = l .held .size;
-  many = l .begin .size;
-  polys = l .begin .few;
-  rises = λ p h. rises (getD st p 0) (getD st (p + 1) 0) (rw (length-take (getD st (p + 1) 0 - getD st p 0) (drop (getD st p 0) es)) at (l .sound p h .long));
-  within = λ p h. omega (arith, l .begin .ordered (p + 1) n (omega arith) (le-refl n), l .begin .inside);
+pub rising : (es st : List ℕ) (n : ℕ) → length es ≡ 1024 → Starts st n → Rising es st n
+rising es st n size b = record {
+  size = size;
+  many = b .size;
+  polys = b .few;
+  rises = λ p h. b .ordered p (p + 1) (omega arith) (omega arith);
+  within = λ p h. omega (arith, b .ordered (p + 1) n (omega arith) (le-refl n), b .inside);
 }
-  where
-    rises : (a b : ℕ) → 4 ≤ min (b - a) (length (drop a es)) → a < b
-    rises a b h = omega arith
 
 -- the word w stands for the step at `at` of polygon `poly`
 pub record Use (es st : List ℕ) (n w : ℕ) : Type 0 where
@@ -113,7 +110,7 @@ pub record Use (es st : List ℕ) (n w : ℕ) : Type 0 where
   pub to : at + 1 < getD st (poly + 1) 0
   pub is : w ≡ stepWord es poly (getD st poly 0) (getD st (poly + 1) 0) at
 
-next-below : (from to i : ℕ) → from < to → i + 1 < to → to ≤ 1024 → nextAt from to i < 1024
+pub next-below : (from to i : ℕ) → from < to → i + 1 < to → to ≤ 1024 → nextAt from to i < 1024
 next-below from to i a b c = go (eqb (i + 2) to)
   where
     go : (z : Bool) → elim z as (λ _. ℕ) [ true ↦ from | false ↦ i + 1 ] < 1024
@@ -122,7 +119,7 @@ next-below from to i a b c = go (eqb (i + 2) to)
 
 module _ (es st : List ℕ) (n : ℕ) (l : Loaded es st n) where
   up : Rising es st n
-  up = rising es st n l
+  up = rising es st n (l .held .size) (l .begin)
 
   -- ring p stands in the entries, and is long enough
   pub ring-long : (p : ℕ) → p < n → getD st p 0 + 4 ≤ getD st (p + 1) 0
@@ -174,7 +171,7 @@ module _ (es st : List ℕ) (n : ℕ) (l : Loaded es st n) where
     hs = small (u .poly) (u .at) (getD st (u .poly + 1) 0) (u .below) (u .to) (ring-within (u .poly) (u .below)) .1
 
     ht : nextAt (getD st (u .poly) 0) (getD st (u .poly + 1) 0) (u .at) < 1024
-    ht = next-below (getD st (u .poly) 0) (getD st (u .poly + 1) 0) (u .at) (up .rises (u .poly) (u .below)) (u .to) (ring-within (u .poly) (u .below))
+    ht = next-below (getD st (u .poly) 0) (getD st (u .poly + 1) 0) (u .at) (omega (arith, u .from, u .to)) (u .to) (ring-within (u .poly) (u .below))
 
     hd : (x y : ℕ) → min 1 (x - y) < 2
     hd x y = omega arith
@@ -235,7 +232,7 @@ module _ (es st : List ℕ) (n : ℕ) (l : Loaded es st n) where
   words-within zero h = zero-le
   words-within (suc m) h = sum (getD st m 0) (getD st (m + 1) 0) (getD st (suc m) 0) (length (wordsTo es st m)) (length (wordsTo es st m ++ ringWords es st m)) (up .rises m h) (ap (λ (k : ℕ). getD st k 0) (add-one m)) (words-within m (omega arith)) (length-append (wordsTo es st m) (ringWords es st m) ∙ ap (λ (k : ℕ). length (wordsTo es st m) + k) (length-span (stepWord es m (getD st m 0) (getD st (m + 1) 0)) (getD st m 0) (getD st (m + 1) 0 - getD st m 0 - 1)))
     where
-      sum : (a b c x y : ℕ) → a < b → b ≡ c → x ≤ a → y ≡ x + (b - a - 1) → y ≤ c
+      sum : (a b c x y : ℕ) → a ≤ b → b ≡ c → x ≤ a → y ≡ x + (b - a - 1) → y ≤ c
       sum a b c x y h e k q = omega arith
 
   pub words-few : length (wordsTo es st n) ≤ 1024

@@ -14,4 +14,4 @@ module _ (a : Arrays) (s : Scalars) where
       → (entries' ≡ entries'') × (stamps' ≡ stamps'') × (findings' ≡ findings'') × (parts' ≡ parts'') × (turned' ≡ turned'') × (r ≡ r')
   turn-agrees {number = number} t t' =
       let u = agree (t .turned) (t' .turned) in
-      (agree (t .entries) (t' .entries), agree (t .stamps) (t' .stamps), agree (t .findings) (t' .findings), agree (t .parts) (t' .parts), u, t .scalars ∙ ap (corrected s number) (shown-agrees refl refl u refl (t .shown) (t' .shown)) ∙ sym (t' .scalars))
+      (agree (t .entries) (t' .entries), agree (t .stamps) (t' .stamps), agree (t .findings) (t' .findings), agree (t .parts) (t' .parts), u, t .scalars ∙ ap (corrected s number) (shown-agrees {t = a .table} {k = s .edges} refl refl u refl (t .shown) (t' .shown)) ∙ sym (t' .scalars))

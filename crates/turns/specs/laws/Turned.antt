@@ -1,5 +1,5 @@
 -- A turn: what is kept after it is what the definitions give for the turned ring.
-use Prim.Native.Nat.{ℕ, zero, suc, _+_, _*_, _-_, _%_, _≤_, _<_}
+use Prim.Native.Nat.{ℕ, zero, suc, _+_, _*_, _-_, _%_, _<_}
 use native.Mathlib.Omega.{arith}
 use mathlib.Core.Path.{_≡_, refl, sym, ap, ap₂, _∙_, subst}
 use mathlib.Core.Bool.{true, false}
@@ -15,7 +15,7 @@ use mir.Val.{SFits, ofZ, toZ}
 use mir.Facts.{toZ-ofZ}
 use Rattle.whole.specs.Lists.{at}
 use Rattle.whole.specs.laws.Size.{small-more, small-fits}
-use Rattle.whole.specs.laws.Stores.{cases, all-set}
+use Rattle.whole.specs.laws.Stores.{cases}
 use Rattle.ring.specs.Entries.{isUnclosed}
 use Rattle.polygon.specs.Ring.{finding, findingNumber, findingPosition}
 use Rattle.polygon.specs.held.Position.{hasPosition}
@@ -27,8 +27,7 @@ use Rattle.space.specs.held.Points.{pointsOf, Coords, Known}
 use Rattle.volume.specs.laws.PartSizes.{part-small}
 use Rattle.shell.specs.declared.Shape.{Shape}
 use Rattle.shell.specs.held.Held.{ringAt, rings}
-use Rattle.shell.specs.held.Kept as S
-use Rattle.shell.specs.laws.EdgedLaws.{edged-turned}
+use Rattle.shell.specs.laws.EdgedLaws.{listed-turned, edged-turned}
 use Rattle.building.specs.declared.Scalars.{Scalars}
 use Rattle.building.specs.Tables.{turned}
 use Rattle.building.specs.held.Holds.{isBroken, Arrays, arrays, heldTables, heldBuilding, Loaded, Found, Summed, Broken, Shown, Held, Did}
@@ -108,9 +107,6 @@ module _ (tolerance : ℕ) (points : List Point) (ring : List ℕ) {k : ℕ} (e 
 abbrev pub flipped : List ℕ → ℕ → List ℕ
 flipped turned p = set turned p (1 - getD turned p 0)
 
-pub flipped-flags : (turned : List ℕ) (p : ℕ) → ((q : ℕ) → getD turned q 0 ≤ 1) → (q : ℕ) → getD (flipped turned p) q 0 ≤ 1
-flipped-flags turned p h q = all-set (λ (v : ℕ). v ≤ 1) 0 turned (suc q) p (1 - getD turned p 0) (λ i g. h i) (omega arith) q (omega arith)
-
 -- ---- all that is kept
 module _ {points : List ℤ} {entries starts : List ℕ} {s : Scalars} (ld : Loaded points entries starts s) (p : ℕ) (h : p < s .polygons) where
   -- what a ring tells, stored anew for the turned one, is told of every ring
@@ -149,15 +145,6 @@ module _ {points : List ℤ} {entries starts : List ℕ} {s : Scalars} (ld : Loa
       }
 
 module _ (a : Arrays) (s : Scalars) (hd : Held a s) (number p : ℕ) (h : p < s .polygons) where
-  -- the table belongs to some rings after the turn, too
-  pub turned-shown : S.Known (a .table) (s .edges) (flipped (a .turned) p) (s .fixed)
-  turned-shown =
-      let k = hd .kept .shown .known in
-      record {
-        present = at p reverse (k .present);
-        edged = edged-turned (k .present) (a .table) (s .edges) (a .turned) (s .fixed) p (omega (arith, hd .kept .turned-size, hd .loaded .begins .few)) (k .edged);
-      }
-
   -- the turned ring, its finding, its part, its stamp and its flag make the building that a turn makes
   pub did-turned : {entries' stamps' findings' : List ℕ} {parts' : List ℤ} {turned' : List ℕ}
       → entries' ≡ turnedEntries (a .entries) (a .starts) p
@@ -185,7 +172,7 @@ module _ (a : Arrays) (s : Scalars) (hd : Held a s) (number p : ℕ) (h : p < s 
             summed = record { size = turned-summed ld p h (kp .summed) .size; each = turned-summed ld p h (kp .summed) .each };
             table-size = kp .table-size;
             turned-size = length-set (a .turned) p (1 - getD (a .turned) p 0) ∙ kp .turned-size;
-            flags = flipped-flags (a .turned) p (kp .flags);
+            listed = rw (turned-rings ld p h) (listed-turned (rings (a .entries) (a .starts) (s .polygons)) (a .table) (s .edges) (a .turned) p b (kp .listed));
             shaped = ⊎-elim (λ br. inl (turned-broken ld p h br)) (λ ed. inr (rw (turned-rings ld p h) (edged-turned (rings (a .entries) (a .starts) (s .polygons)) (a .table) (s .edges) (a .turned) (s .fixed) p b ed))) (kp .shaped);
             shown = sh';
           };

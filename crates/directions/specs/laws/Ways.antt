@@ -18,7 +18,8 @@ use Rattle.edges.specs.laws.EdgeLaws.{smaller-edge, larger-edge}
 use Rattle.edges.specs.held.Ascending.{In}
 use Rattle.shell.specs.held.Held.{ringAt}
 use Rattle.words.specs.held.Words.{keyOf, polyOf, dirOf}
-use Rattle.edges.specs.held.Table.{stepWord, span, ringWords, wordsTo, ascending, nextAt}
+use Rattle.edges.specs.held.Table.{stepWord, span, ringWords, wordsTo, nextAt}
+use Rattle.edges.specs.Order.{ascending}
 use Rattle.shell.specs.held.Kept.{Loaded, turn, turnedRings, headingOf, alikeIn}
 use Rattle.edges.specs.laws.Tallies.{one, one-yes, one-no, tally-nil, tally-cons, tally-map, tally-append, tally-reverse, tally-in}
 use Rattle.edges.specs.laws.Ascending.{tally-ascending, in-ascending}
