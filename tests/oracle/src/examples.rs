@@ -5,7 +5,7 @@ use crate::report::{report, Report};
 use crate::ring::{finding, position};
 use crate::tables::{Place, Tables};
 
-const TETRAHEDRON: &str = "010000
+pub const TETRAHEDRON: &str = "010000
 02000000000000000000000000
 02000003E80000000000000000
 0200000000000003E800000000
@@ -18,7 +18,7 @@ const TETRAHEDRON: &str = "010000
 ";
 
 /// The answers to a stream, line by line.
-fn ask(stream: &str) -> Vec<String> {
+pub fn ask(stream: &str) -> Vec<String> {
     let mut room = vec![b'?'; 33 * 1_024];
     let length = answer(stream.as_bytes(), &mut room);
     let length = usize::try_from(length).expect("no whole-stream refusal");

@@ -1,5 +1,6 @@
 //! Frames: what a line says, if it says anything.
 
+use crate::across::Ends;
 use crate::tables::Place;
 
 /// A line that the frame table has.
@@ -12,6 +13,7 @@ pub enum Frame {
     Move { number: i128, point: usize, place: Place },
     Turn { number: i128, polygon: usize },
     Question { polygon: usize },
+    Across { ends: Ends },
 }
 
 /// "A line is upper-case hexadecimal only."
@@ -64,6 +66,8 @@ pub fn decode(line: &[u8]) -> Option<Frame> {
         }
         (6, 14) => Some(Frame::Turn { number: unsigned(&fields[0..8]), polygon: element(&fields[8..12]) }),
         (7, 6) => Some(Frame::Question { polygon: element(fields) }),
+        // Document 02, (xiii): "Frame 0C asks for two point numbers (4 each)".
+        (0x0C, 10) => Some(Frame::Across { ends: [element(&fields[0..4]), element(&fields[4..8])] }),
         _ => None,
     }
 }

@@ -1,5 +1,6 @@
 //! What is held between two frames, what refuses a frame, and what an accepted frame does.
 
+use crate::across::across_line;
 use crate::frame::Frame;
 use crate::report::{question_line, report, report_line};
 use crate::tables::{Place, Tables};
@@ -84,11 +85,12 @@ impl State {
     }
 }
 
-/// "02, 03 or 04 while no load is running; 05, 06 or 07 while no building is held". By kind, since a broken frame has one too.
+/// "02, 03 or 04 while no load is running; 05, 06 or 07 while no building is held"; document 02, (xiii), of 0C: "02 with no building
+/// held". By kind, since a broken frame has one too.
 pub fn refused_02_kind(state: &State, kind: u8) -> bool {
     match kind {
         2..=4 => !matches!(state, State::Loading(_)),
-        5..=7 => !matches!(state, State::Held { .. }),
+        5..=7 | 0x0C => !matches!(state, State::Held { .. }),
         _ => false,
     }
 }
@@ -103,6 +105,7 @@ pub fn kind(frame: &Frame) -> u8 {
         Frame::Move { .. } => 5,
         Frame::Turn { .. } => 6,
         Frame::Question { .. } => 7,
+        Frame::Across { .. } => 0x0C,
     }
 }
 
@@ -114,12 +117,13 @@ fn refused_07(state: &State, frame: &Frame) -> bool {
     }
 }
 
-/// "a point or polygon number not below the present count"
+/// "a point or polygon number not below the present count"; document 02, (xiii): "05 for an unknown point; two equal numbers also 05."
 fn refused_05(tables: &Tables, frame: &Frame) -> bool {
     match frame {
         Frame::Polygon { entries } => entries.iter().any(|&point| point >= tables.points.len()),
         Frame::Move { point, .. } => *point >= tables.points.len(),
         Frame::Turn { polygon, .. } | Frame::Question { polygon } => *polygon >= tables.polygons.len(),
+        Frame::Across { ends } => ends[0] == ends[1] || ends.iter().any(|&point| point >= tables.points.len()),
         _ => false,
     }
 }
@@ -204,6 +208,8 @@ fn accept(state: &mut State, frame: Frame) -> String {
             let State::Held { loaded, history } = state else { unreachable!("row 02") };
             question_line(&corrected(loaded, history), polygon, stamp(loaded, history, polygon))
         }
+        // Document 02, (xiii): "After any correction it equals the list made afresh".
+        Frame::Across { ends } => across_line(&state.tables(), ends),
     }
 }
 

@@ -4,6 +4,7 @@
 //! out from them anew. It is slow on purpose. Each function stands for a sentence of document 01, which is its comment; where a
 //! request of document 02 has changed the rule, for that request's sentence.
 
+pub mod across;
 pub mod frame;
 pub mod held;
 pub mod report;
@@ -14,6 +15,10 @@ pub mod tables;
 
 pub use stream::answer;
 
+#[cfg(test)]
+mod across_again;
+#[cfg(test)]
+mod across_examples;
 #[cfg(test)]
 mod examples;
 #[cfg(test)]

@@ -8,10 +8,10 @@ use crate::tables::{Place, Tables, ORIGIN};
 use std::collections::{BTreeMap, BTreeSet, HashSet};
 
 /// Small numbers from a linear congruence.
-struct Dice(u64);
+pub struct Dice(pub u64);
 
 impl Dice {
-    fn below(&mut self, bound: u64) -> u64 {
+    pub fn below(&mut self, bound: u64) -> u64 {
         self.0 = self.0.wrapping_mul(6364136223846793005).wrapping_add(1442695040888963407);
         (self.0 >> 33) % bound
     }

@@ -1,5 +1,6 @@
 //! What is asked of the product on one stream: the oracle's answers, nothing else written, and the laws that hold between streams.
 
+use crate::across;
 use crate::prng::Dice;
 use crate::product::{Lent, Subject};
 use oracle::held::{step, State};
@@ -124,6 +125,8 @@ pub fn judge(subject: Subject, stream: &[u8], dice: &mut Dice) -> Result<(), Str
     let Ok(answers) = answers else { return Ok(()) };
     last_line_feed(subject, stream, &answers, dice)?;
     struck_out(subject, stream, &answers, dice)?;
+    edges_struck_out(subject, stream, &answers, dice)?;
+    ends_exchanged(subject, stream, &answers, dice)?;
     corrected.iter().try_for_each(|(line, answer, state)| fresh_load(subject, *line, answer, state, dice))
 }
 
@@ -138,16 +141,43 @@ fn last_line_feed(subject: Subject, stream: &[u8], answers: &[u8], dice: &mut Di
     }
 }
 
-/// "Refused: [...] nothing held changes": with the refused lines struck out the other answers stay.
-fn struck_out(subject: Subject, stream: &[u8], answers: &[u8], dice: &mut Dice) -> Result<(), String> {
+/// Only these lines, which the other ones must not matter to: their answers stay.
+fn kept_alone(subject: Subject, stream: &[u8], answers: &[u8], kept: &[usize], dice: &mut Dice) -> Result<(), String> {
     let (frames, answered) = (lines(stream), lines(answers));
-    let kept: Vec<usize> = (0..frames.len()).filter(|&at| answered[at].starts_with(b"00")).collect();
     if kept.len() == frames.len() {
         return Ok(());
     }
     let put = |from: &[&[u8]]| -> Vec<u8> { kept.iter().flat_map(|&at| [from[at], b"\n"].concat()).collect() };
     let (stream, answers) = (put(&frames), put(&answered));
-    expect(subject, &stream, 33 * kept.len(), &Ok(answers), dice).map_err(|why| format!("refused lines struck out: {why}"))
+    expect(subject, &stream, 33 * kept.len(), &Ok(answers), dice)
+}
+
+/// "Refused: [...] nothing held changes": with the refused lines struck out the other answers stay.
+fn struck_out(subject: Subject, stream: &[u8], answers: &[u8], dice: &mut Dice) -> Result<(), String> {
+    let answered = lines(answers);
+    let kept: Vec<usize> = (0..answered.len()).filter(|&at| answered[at].starts_with(b"00")).collect();
+    kept_alone(subject, stream, answers, &kept, dice).map_err(|why| format!("refused lines struck out: {why}"))
+}
+
+/// Frame 0C asks: with its lines struck out, refused ones too, the other answers stay.
+fn edges_struck_out(subject: Subject, stream: &[u8], answers: &[u8], dice: &mut Dice) -> Result<(), String> {
+    let frames = lines(stream);
+    let kept: Vec<usize> = (0..frames.len()).filter(|&at| !frames[at].starts_with(b"0C")).collect();
+    kept_alone(subject, stream, answers, &kept, dice).map_err(|why| format!("0C lines struck out: {why}"))
+}
+
+/// "two point numbers (4 each) in either order": with the two exchanged in each 0C line, refused ones too, all answers stay.
+fn ends_exchanged(subject: Subject, stream: &[u8], answers: &[u8], dice: &mut Dice) -> Result<(), String> {
+    let asks = |line: &[u8]| line.len() == 10 && line.starts_with(b"0C");
+    let frames = lines(stream);
+    if !frames.iter().any(|line| asks(line)) {
+        return Ok(());
+    }
+    let exchanged = |line: &&[u8]| if asks(line) { [&line[..2], &line[6..], &line[2..6]].concat() } else { line.to_vec() };
+    let stream: Vec<u8> = frames.iter().flat_map(|line| exchanged(line).into_iter().chain([b'\n'])).collect();
+    // A stream of the full length without its last line feed has no room for one.
+    let stream = if stream.len() > 65_535 { &stream[..stream.len() - 1] } else { &stream };
+    expect(subject, stream, 33 * frames.len(), &Ok(answers.to_vec()), dice).map_err(|why| format!("ends exchanged: {why}"))
 }
 
 /// The frames that load these tables.
@@ -164,19 +194,32 @@ fn load_frames(tables: &Tables) -> String {
     frames + "04\n"
 }
 
+/// Two points to be asked for: those of a step of some ring, or any two.
+fn some_ends(tables: &Tables, dice: &mut Dice) -> [usize; 2] {
+    let any = [dice.below(tables.points.len()), dice.below(tables.points.len())];
+    if dice.once_in(4) {
+        return any;
+    }
+    across::step(dice, &tables.polygons).unwrap_or(any)
+}
+
 /// Demand 3: the report after an accepted correction is the one that a fresh load of the corrected tables gives, and so are finding,
-/// position and part of a polygon.
+/// position and part of a polygon. "After any correction it equals the list made afresh": so are the users of an edge, asked for from
+/// either end.
 fn fresh_load(subject: Subject, line: usize, answer: &str, state: &State, dice: &mut Dice) -> Result<(), String> {
     let tables = state.tables();
     let polygon = dice.below(tables.polygons.len());
-    let question = format!("07{polygon:04X}\n");
-    let asked = step(&mut state.clone(), question.trim_end().as_bytes());
+    let question = format!("07{polygon:04X}");
+    let asked = step(&mut state.clone(), question.as_bytes());
     // A fresh load has all stamps 0.
     let asked = if asked.len() == 32 { format!("{}00000000{}", &asked[..8], &asked[16..]) } else { asked };
+    let [a, b] = some_ends(&tables, dice);
+    let (edge, from_the_other) = (format!("0C{a:04X}{b:04X}"), format!("0C{b:04X}{a:04X}"));
+    let across = step(&mut state.clone(), edge.as_bytes());
     let loads = 1 + tables.points.len() + tables.polygons.len();
-    let answers = "00\n".repeat(loads) + answer + "\n" + &asked + "\n";
-    let stream = load_frames(&tables) + &question;
-    expect(subject, stream.as_bytes(), 33 * (loads + 2), &Ok(answers.into_bytes()), dice)
+    let answers = "00\n".repeat(loads) + &format!("{answer}\n{asked}\n{across}\n{across}\n");
+    let stream = load_frames(&tables) + &format!("{question}\n{edge}\n{from_the_other}\n");
+    expect(subject, stream.as_bytes(), 33 * (loads + 4), &Ok(answers.into_bytes()), dice)
         .map_err(|why| format!("fresh load of the tables after line {line}: {why}"))
 }
 

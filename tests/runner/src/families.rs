@@ -1,5 +1,6 @@
 //! Families of streams: each aims at some part of the documents, and the seed decides the rest.
 
+use crate::across;
 use crate::distance::{self, Twice};
 use crate::faults::{pinch, ring_fault, shape_fault};
 use crate::positions;
@@ -24,7 +25,7 @@ pub const FAMILIES: &[Family] = &[
     Family { name: "shape faults", share: 5, write: shape_faults },
     Family { name: "cells and pinches", share: 3, write: cells_and_pinches },
     Family { name: "two solids", share: 3, write: two_solids },
-    Family { name: "polygons and corners reached", share: 1, write: reached::stream },
+    Family { name: "polygons and corners reached", share: 2, write: reached::stream },
     Family { name: "few polygons", share: 2, write: few_polygons },
     Family { name: "rings on a small grid", share: 4, write: grid_rings },
     Family { name: "rings of repeated numbers", share: 1, write: repeats::stream },
@@ -32,6 +33,7 @@ pub const FAMILIES: &[Family] = &[
     Family { name: "rings off their plane", share: 3, write: off_plane },
     Family { name: "rings at the true distance", share: 2, write: true_distance },
     Family { name: "large rings at the true distance", share: 1, write: large_at_true_distance },
+    Family { name: "edges asked for", share: 3, write: across::stream },
     Family { name: "histories", share: 5, write: histories },
     Family { name: "refusals", share: 5, write: refusals },
     Family { name: "begins and ends", share: 3, write: begins },
@@ -62,7 +64,7 @@ pub fn stream(seed: u64, index: u64) -> Vec<u8> {
 }
 
 /// Tumbled, sheared, set down and renumbered.
-fn disguise(dice: &mut Dice, solid: &mut Solid) {
+pub fn disguise(dice: &mut Dice, solid: &mut Solid) {
     solid.tumble(dice);
     for _ in 0..dice.below(3) {
         solid.shear(dice);
@@ -137,10 +139,19 @@ impl Believed {
         }
     }
 
+    /// Two points to be asked for, mostly those of a step.
+    fn ends(&mut self, dice: &mut Dice) -> [usize; 2] {
+        let points = self.solid.points.len();
+        if dice.once_in(3) {
+            return [self.element(dice, points), self.element(dice, points)];
+        }
+        across::step(dice, &self.solid.rings).unwrap_or([0, 1])
+    }
+
     /// One move, turn or question, as it comes.
     fn frame(&mut self, dice: &mut Dice, script: &mut Script) {
         let (points, polygons) = (self.solid.points.len(), self.solid.rings.len());
-        match dice.below(10) {
+        match dice.below(12) {
             0..=3 => {
                 let (number, point) = (self.number(dice), self.element(dice, points));
                 let place = self.place(dice, point);
@@ -161,9 +172,13 @@ impl Believed {
                     self.last = number;
                 }
             }
-            _ => {
+            7..=9 => {
                 let polygon = self.element(dice, polygons);
                 script.question(polygon);
+            }
+            _ => {
+                let ends = self.ends(dice);
+                script.across(ends);
             }
         }
     }
@@ -579,7 +594,7 @@ fn awkward(dice: &mut Dice, script: &mut Script, solid: &Solid, last: u32) {
     let taken = *dice.pick(&solid.points);
     let free = [dice.between(-9, 9), dice.between(5, 9), dice.between(-9, 9)];
     let place = *dice.pick(&[beyond, taken, taken, free]);
-    match dice.below(14) {
+    match dice.below(17) {
         0..=4 => script.shift(late, unknown, place),
         5 | 6 => script.turn(late, unknown),
         7 => script.question(unknown),
@@ -588,6 +603,8 @@ fn awkward(dice: &mut Dice, script: &mut Script, solid: &Solid, last: u32) {
         10 => script.polygon(&[0, unknown, 1, 0]),
         11 => script.begin(*dice.pick(&[1_001, 0xFFFF, 0x8000])),
         12 if dice.once_in(4) => script.end(),
+        13 | 14 => script.across([unknown, *dice.pick(&[0, 1, 3, 4, unknown])]),
+        15 => across::malformed(dice, script, [unknown, 1]),
         _ => {
             let broken: &[&str] =
                 &["", "04 ", "040", "4", "00", "08", "07000g", "070", "0100", "02", "0300", "030000000", "06", "05", "FF"];
@@ -678,9 +695,9 @@ fn noise(dice: &mut Dice) -> Vec<u8> {
             0 => bytes.extend((0..dice.below(40)).map(|_| dice.below(256) as u8)),
             1 => bytes.extend((0..dice.below(530)).map(|_| *dice.pick(b"0123456789ABCDEF"))),
             _ => {
-                let kind = dice.below(9);
+                let kind = *dice.pick(&[0, 1, 2, 3, 4, 5, 6, 7, 8, 0x0C]);
                 let (entries, any) = (4 * dice.below(130), dice.below(40));
-                let length = *dice.pick(&[0, 4, 24, 12, 36, entries, any]);
+                let length = *dice.pick(&[0, 4, 24, 12, 36, 8, entries, any]);
                 bytes.extend(format!("{kind:02X}").bytes());
                 bytes.extend((0..length).map(|_| *dice.pick(b"00000000000000001F")));
             }
@@ -770,6 +787,7 @@ fn table_bounds(dice: &mut Dice) -> Vec<u8> {
     script.turn(number, *dice.pick(&[0, 255, 256]));
     script.shift(number + 1, *dice.pick(&[0, 5, 511, 512]), [-50, -50, -50]);
     script.question(*dice.pick(&[0, 255, 256]));
+    script.across([*dice.pick(&[0, 510, 512]), *dice.pick(&[1, 511, 512])]);
     script.bytes(dice)
 }
 

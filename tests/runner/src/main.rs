@@ -1,5 +1,7 @@
 //! The runner: seeded streams to the product and to the oracle, and a comparison of all that comes back. See ../../README.md.
 
+mod across;
+mod across_rings;
 mod compare;
 mod distance;
 mod families;
@@ -8,6 +10,8 @@ mod positions;
 mod prng;
 mod product;
 mod reach;
+mod reach_across;
+mod reach_asking;
 mod reach_marks;
 mod reach_positions;
 mod reached;

@@ -1,5 +1,6 @@
 //! How often each thing was reached that the streams are meant to reach, by the oracle's account; what must be reached is listed.
 
+use crate::reach_asking;
 use crate::reach_marks;
 use crate::reach_positions;
 use crate::repeats;
@@ -144,7 +145,7 @@ fn required() -> Vec<String> {
     names.extend((1..=7).map(|refusal| format!("refusal {refusal:02X}")));
     names.extend(PAIRS.iter().map(|(first, second)| format!("refusals {first:02X} and {second:02X}")));
     let states = ["nothing", "loading", "held"];
-    for kind in 1..=7 {
+    for kind in (1..=7).chain([0x0C]) {
         for state in states {
             let meant = kind == 1 || (state == "loading" && kind <= 4) || (state == "held" && kind >= 5);
             names.push(format!("frame {kind:02X} {} while {state}", if meant { "accepted" } else { "refused 02" }));
@@ -155,6 +156,7 @@ fn required() -> Vec<String> {
     names.extend([BOUNDS, RINGS, repeats::NAMES, DISTANCES, HISTORIES].concat().iter().map(|name| name.to_string()));
     names.extend(reach_positions::names());
     names.extend(reach_marks::names());
+    names.extend(reach_asking::names());
     names
 }
 
@@ -204,10 +206,12 @@ impl Reach {
     fn frames(&mut self, all: &[&[u8]]) {
         let mut state = State::Nothing;
         let mut past = Past::default();
+        let mut since = reach_asking::Since::default();
         for line in all {
             let before = state.clone();
             let answer = step(&mut state, line);
             self.frame(&before, line, &answer);
+            self.count_all(since.line(&before, line, &answer));
             if let Some(frame) = decode(line) {
                 self.past(&mut past, &before, &state, &frame, &answer);
                 match frame {
@@ -231,7 +235,7 @@ impl Reach {
         };
         let Some(frame) = decode(line) else {
             self.count("refusal 01");
-            let kind = line.get(..2).and_then(|two| std::str::from_utf8(two).ok()).and_then(|two| two.parse().ok());
+            let kind = line.get(..2).and_then(|two| std::str::from_utf8(two).ok()).and_then(|two| u8::from_str_radix(two, 16).ok());
             self.count_if(refused_02_kind(state, kind.unwrap_or(0)), "refusals 01 and 02");
             self.count_if(line.len() == 518 && line.starts_with(b"03"), "ring of 129 refused 01");
             return;

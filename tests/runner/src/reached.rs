@@ -139,7 +139,7 @@ fn in_pieces(dice: &mut Dice, polygons: usize, named: usize) -> Solid {
 
 /// Each point in a table of `count`, the first ones at the given numbers, the others along, backwards or at random among those left;
 /// what is between them is in no ring.
-fn number_points(dice: &mut Dice, solid: &mut Solid, first: &[(usize, usize)], count: usize) {
+pub fn number_points(dice: &mut Dice, solid: &mut Solid, first: &[(usize, usize)], count: usize) {
     let mut left: Vec<usize> = (0..count).filter(|number| first.iter().all(|(_, taken)| taken != number)).collect();
     dice.shuffle(&mut left);
     left.truncate(solid.points.len() - first.len());

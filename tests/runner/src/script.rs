@@ -47,6 +47,10 @@ impl Script {
         self.raw(format!("07{polygon:04X}"));
     }
 
+    pub fn across(&mut self, ends: [usize; 2]) {
+        self.raw(format!("0C{:04X}{:04X}", ends[0], ends[1]));
+    }
+
     /// Points, then polygons; sometimes each polygon as soon as its points are there.
     pub fn tables(&mut self, dice: &mut Dice, solid: &Solid) {
         if dice.once_in(4) {
