@@ -1,5 +1,6 @@
 // A heat engine's day in small: the morning's load, then corrections from two routes in the order of their arrival. The
-// engine uses a volume only while the building is accepted, and sees every frame that was refused, with its number.
+// engine uses a volume only while the building is accepted, and sees every frame that was refused, with its number. In the
+// evening a window planner asks which polygons share the ridge.
 // Usage: heat_engine LOAD FAST SLOW; a line of FAST or SLOW is a time of arrival and a frame, or a remark after '#'.
 #include "framecheck.hpp"
 
@@ -41,17 +42,33 @@ void print(const framecheck::Report &report) {
     }
 }
 
+void print(framecheck::Refusal refusal) {
+    const auto why = framecheck::sentence(refusal);
+    std::printf("refused %02X: %.*s\n", static_cast<unsigned>(refusal), static_cast<int>(why.size()), why.data());
+}
+
 void print(const Arrival &arrival, const framecheck::Correction &c) {
     std::printf("%s %s ", arrival.time.c_str(), arrival.route == framecheck::Route::fast ? "fast" : "slow");
     if (c.number) std::printf("no. %u ", *c.number);
     if (const auto *report = c.accepted()) {
         print(*report);
     } else if (const auto *no = c.refused()) {
-        const auto why = framecheck::sentence(no->refusal);
-        std::printf("refused %02X: %.*s\n", static_cast<unsigned>(no->refusal), static_cast<int>(why.size()), why.data());
+        print(no->refusal);
     } else {
         std::printf("%s\n", c.waiting() != nullptr ? "waits for room" : "is no correction and was not passed");
     }
+}
+
+// The edge between two points, and what is across it from its first user.
+void print_edge(const framecheck::Building &building, std::uint16_t a, std::uint16_t b) {
+    std::printf("edge %u, %u: ", a, b);
+    const auto reply = building.across(a, b);
+    if (const auto *no = std::get_if<framecheck::Refused>(&reply)) return print(no->refusal);
+    const auto &edge = std::get<framecheck::EdgeAnswer>(reply);
+    std::printf("users %u", edge.users);
+    const auto other = edge.across_from(edge.first.value_or(FRAMECHECK_NO_USER));
+    if (other) std::printf("; across it from polygon %u is polygon %u", *edge.first, *other);
+    std::printf("\n");
 }
 
 int day(const char *load, const char *fast, const char *slow) {
@@ -79,6 +96,7 @@ int day(const char *load, const char *fast, const char *slow) {
         std::printf("polygon %zu: finding %02X, position %u, last touched by no. %u, part %lld\n", p,
                     static_cast<unsigned>(answers[p].finding), answers[p].position.index, answers[p].stamp,
                     static_cast<long long>(answers[p].part));
+    print_edge(building, 8, 9); // the ridge of the house in data/
     std::printf("%zu of %zu frames refused\n", building.refused().size(), building.corrections().size());
     return 0;
 }

@@ -31,23 +31,20 @@ streams::Ring ring(Choices &c, int points) {
     return r;
 }
 
-} // namespace
-
-extern "C" int LLVMFuzzerTestOneInput(const std::uint8_t *data, std::size_t size) {
-    if (size > 4096) return 0;
-    Choices c(data, size);
-    const int start = c.byte();
+// The stream as it grows, with what its next frames go by.
+struct Writer {
     std::string stream;
     int points = 0, polygons = 0;
     std::uint32_t number = 0;
-    if (start % 4 == 0) { // a solid to begin with
+
+    void solid(int start) {
         const auto model = start % 8 == 0 ? streams::tetrahedron() : start % 3 == 0 ? streams::gabled_house() : streams::box();
         stream = streams::load(model);
         points = static_cast<int>(model.points.size());
         polygons = static_cast<int>(model.rings.size());
     }
-    while (c.left() && stream.size() < 60000) {
-        const int kind = c.byte();
+
+    void load_frame(int kind, Choices &c) {
         if (kind < 8) {
             stream += streams::begin(c.byte() * (kind == 0 ? 4 : 1));
             points = polygons = 0;
@@ -57,23 +54,47 @@ extern "C" int LLVMFuzzerTestOneInput(const std::uint8_t *data, std::size_t size
         } else if (kind < 130) {
             stream += streams::polygon(ring(c, points));
             polygons++;
-        } else if (kind < 150) {
+        } else {
             stream += streams::end_of_load();
             number = 0;
-        } else if (kind < 190) {
-            number += static_cast<std::uint32_t>(c.below(8) - 1);
-            const int which = c.below(points + (kind == 150));
-            stream += streams::move(number, which, place(c));
-        } else if (kind < 215) {
-            number += static_cast<std::uint32_t>(c.below(8) - 1);
-            stream += streams::turn(number, c.below(polygons + (kind == 190)));
-        } else if (kind < 250) {
-            stream += streams::question(c.below(polygons + (kind == 215)));
-        } else {
-            stream += static_cast<char>(c.byte());
-            stream += "\n";
         }
     }
-    fuzz::compare(reinterpret_cast<const std::uint8_t *>(stream.data()), stream.size());
+
+    void correction(int kind, Choices &c) {
+        number += static_cast<std::uint32_t>(c.below(8) - 1);
+        if (kind < 190) {
+            const int which = c.below(points + (kind == 150));
+            stream += streams::move(number, which, place(c));
+        } else {
+            stream += streams::turn(number, c.below(polygons + (kind == 190)));
+        }
+    }
+
+    void question(int kind, Choices &c) {
+        if (kind < 232) {
+            stream += streams::question(c.below(polygons + (kind == 215)));
+        } else {
+            const int a = c.below(points + (kind == 232)), b = c.below(points + (kind == 233));
+            stream += streams::across(a, b);
+        }
+    }
+};
+
+} // namespace
+
+extern "C" int LLVMFuzzerTestOneInput(const std::uint8_t *data, std::size_t size) {
+    if (size > 4096) return 0;
+    Choices c(data, size);
+    const int start = c.byte();
+    Writer w;
+    if (start % 4 == 0) w.solid(start); // to begin with
+    while (c.left() && w.stream.size() < 60000) {
+        const int kind = c.byte();
+        if (kind < 150) w.load_frame(kind, c);
+        else if (kind < 215) w.correction(kind, c);
+        else if (kind < 250) w.question(kind, c);
+        else (w.stream += static_cast<char>(c.byte())) += "\n";
+    }
+    fuzz::compare(reinterpret_cast<const std::uint8_t *>(w.stream.data()), w.stream.size());
     return 0;
 }

@@ -25,18 +25,26 @@ enum {
     FRAMECHECK_MOST_ENTRIES = 1024,    /* entries in all rings */
     FRAMECHECK_MOST_COORDINATE = 100000, /* mm, in size */
     FRAMECHECK_MOST_TOLERANCE = 1000,  /* mm */
-    FRAMECHECK_LONGEST_FRAME = 514     /* digits: a polygon of 128 entries */
+    FRAMECHECK_LONGEST_FRAME = 514,    /* digits: a polygon of 128 entries */
+    FRAMECHECK_NO_USER = 0xFFFF        /* where an edge has no first or no second user */
 };
+
+/* Document 02 adds one frame to document 01's:
+ *   0C, point 4, point 4                  edge question: who uses the edge between two points, named in either order */
 
 /* The answer to a line, each field in upper-case hexadecimal:
  *   00                                    begin, point or polygon accepted
  *   00, check 2, a 4, b 4, faulty 4, six-volume 16   end of load, move or turn accepted: the report
  *   00, finding 2, position 4, stamp 8, part 16      question accepted
+ *   00, users 4, first user 4, second user 4         edge question accepted
  *   01 to 07                              refused
  * Report and question's answer are both 32 digits: the line's kind tells them apart. A finding's position is, for 03, the least
  * entry of the ring whose number stood earlier, the closing entry aside; for 05 the least edge that meets another where it must not,
  * an edge having the index of its first entry; for 06 the least entry that is too far from the plane; else 0. All count from 0. In a
- * report a is the lowest polygon with a finding, and b its position. */
+ * report a is the lowest polygon with a finding, and b its position. A polygon is a user of an edge once for each time that its ring
+ * goes from one of the points to the other, whatever its finding; a step from a number to itself is no edge. First and second are the two
+ * lowest of the users so counted, FFFF where there is none: an edge used twice by polygon 3 and once by 5 has 3, 3 and 3. Two points that
+ * share no edge have no users. */
 
 /* The checks; 01 to 06 are also a polygon's findings. 06 goes by true distance, exactly: it fails where, for some point p of the ring,
  * (N.(p - first))^2 > tolerance^2 * (Nx^2 + Ny^2 + Nz^2), N being the ring's normal. */
@@ -111,7 +119,8 @@ static inline const char *framecheck_refusal_sentence(int refusal) {
     case FRAMECHECK_WRONG_STATE: return "A load frame while no load is running, or a correction or question while no building is held.";
     case FRAMECHECK_BEYOND_BOUND: return "The tolerance or a coordinate is beyond its bound.";
     case FRAMECHECK_TABLE_FULL: return "One point, polygon or entry more than the tables hold.";
-    case FRAMECHECK_UNKNOWN_NUMBER: return "A point or polygon number that is not below the present count.";
+    case FRAMECHECK_UNKNOWN_NUMBER:
+        return "A point or polygon number that is not below the present count, or an edge asked for from a point to itself.";
     case FRAMECHECK_PLACE_TAKEN: return "The place is that of another point.";
     case FRAMECHECK_LATE: return "The correction's number is not above the last accepted one.";
     default: return "Not a refusal of document 01.";

@@ -177,11 +177,22 @@ struct PolygonAnswer { // question accepted
     std::int64_t part = 0;          // its part of the six-volume
 };
 
+struct EdgeAnswer { // edge question accepted
+    std::uint16_t users = 0;                    // a polygon once for each time that its ring uses the edge
+    std::optional<std::uint16_t> first, second; // the two lowest of them, so that one polygon may be both
+
+    // The polygon across the edge from one that uses it; nothing where the edge has another number of users than two.
+    std::optional<std::uint16_t> across_from(std::uint16_t polygon) const noexcept {
+        if (users != 2 || (first != polygon && second != polygon)) return std::nullopt;
+        return first == polygon ? second : first;
+    }
+};
+
 struct Refused {
     Refusal refusal = Refusal::broken;
 };
 
-using Answer = std::variant<Plain, Report, PolygonAnswer, Refused>;
+using Answer = std::variant<Plain, Report, PolygonAnswer, EdgeAnswer, Refused>;
 
 inline bool operator==(const Plain &, const Plain &) noexcept { return true; }
 inline bool operator==(const Report &p, const Report &q) noexcept {
@@ -189,6 +200,9 @@ inline bool operator==(const Report &p, const Report &q) noexcept {
 }
 inline bool operator==(const PolygonAnswer &p, const PolygonAnswer &q) noexcept {
     return p.finding == q.finding && p.position == q.position && p.stamp == q.stamp && p.part == q.part;
+}
+inline bool operator==(const EdgeAnswer &p, const EdgeAnswer &q) noexcept {
+    return p.users == q.users && p.first == q.first && p.second == q.second;
 }
 inline bool operator==(const Refused &p, const Refused &q) noexcept { return p.refusal == q.refusal; }
 
@@ -270,6 +284,20 @@ inline PolygonAnswer read_polygon_answer(std::string_view line) {
     return {finding, position, static_cast<std::uint32_t>(number(line.substr(8, 8))), signed_number(line.substr(16))};
 }
 
+// One of an edge's two lowest users, which must be there or not as their count tells.
+inline std::optional<std::uint16_t> read_user(std::string_view line, std::size_t at, bool there) {
+    const std::uint64_t user = number(line.substr(at, 4));
+    if (there ? user >= FRAMECHECK_MOST_POLYGONS : user != FRAMECHECK_NO_USER) throw Unreadable(std::string(line));
+    return there ? std::optional(static_cast<std::uint16_t>(user)) : std::nullopt;
+}
+
+inline EdgeAnswer read_edge_answer(std::string_view line) {
+    const auto users = static_cast<std::uint16_t>(number(line.substr(2, 4)));
+    const EdgeAnswer answer{users, read_user(line, 6, users >= 1), read_user(line, 10, users >= 2)};
+    if (users > FRAMECHECK_MOST_ENTRIES || (answer.second && *answer.first > *answer.second)) throw Unreadable(std::string(line));
+    return answer;
+}
+
 } // namespace detail
 
 // The answer to a line, line feeds left off both. The line's kind tells what an accepted one says: a report and a question's answer
@@ -286,6 +314,7 @@ inline Answer read_answer(std::string_view frame, std::string_view line) {
         if ((kind == "04" || kind == "05" || kind == "06") && what <= number_of(Check::no_volume)) return detail::read_report(line);
         if (kind == "07" && what <= number_of(Finding::not_planar)) return detail::read_polygon_answer(line);
     }
+    if (detail::digits(line) && line.size() == 14 && line.substr(0, 2) == "00" && kind == "0C") return detail::read_edge_answer(line);
     throw Unreadable(std::string(line));
 }
 
@@ -354,6 +383,7 @@ enum class Folding : std::uint8_t {
 enum class Folded : std::uint8_t { done, nothing_held, not_equal };
 
 using Reply = std::variant<PolygonAnswer, Refused>;
+using EdgeReply = std::variant<EdgeAnswer, Refused>;
 
 // Keeps one building's frames and passes them all again at each question, as document 01 asks of a host. Corrections are
 // passed in the order in which they come; the service alone decides which are late. Some lines are always left for questions.
@@ -412,13 +442,13 @@ class Building {
 
     // One polygon's answer; all frames are passed again.
     Reply question(std::uint16_t polygon) const {
-        const Answers answers = answer_all(stream_ + "07" + detail::hex(polygon, 4));
-        if (answers.refused) throw Unreadable("a refusal of a stream within its bounds");
-        const Answer &last = answers.lines.back();
-        if (const auto *no = std::get_if<Refused>(&last)) return *no;
-        if (!std::holds_alternative<PolygonAnswer>(last)) throw Unreadable("no answer to a question");
-        return with_stamp(std::get<PolygonAnswer>(last), polygon);
+        const auto reply = ask<PolygonAnswer>("07" + detail::hex(polygon, 4));
+        if (const auto *answer = std::get_if<PolygonAnswer>(&reply)) return with_stamp(*answer, polygon);
+        return reply;
     }
+
+    // Who uses the edge between two points, in either order; all frames are passed again.
+    EdgeReply across(std::uint16_t a, std::uint16_t b) const { return ask<EdgeAnswer>("0C" + detail::hex(a, 4) + detail::hex(b, 4)); }
 
     // Every polygon's answer, in order, with as many questions a call as fit.
     std::vector<PolygonAnswer> polygon_answers() const {
@@ -471,7 +501,7 @@ class Building {
     std::size_t times_folded() const noexcept { return folds_; }
 
   private:
-    static constexpr std::size_t question_bytes = 7; // "07", four digits, a line feed
+    static constexpr std::size_t question_bytes = 11; // the longest: "0C", eight digits, a line feed
 
     Folding folding_;
     std::string stream_;
@@ -497,6 +527,16 @@ class Building {
         return std::nullopt;
     }
 
+    // What comes back to one question after all the frames.
+    template <class Wanted> std::variant<Wanted, Refused> ask(const std::string &line) const {
+        const Answers answers = answer_all(stream_ + line);
+        if (answers.refused) throw Unreadable("a refusal of a stream within its bounds");
+        const Answer &last = answers.lines.back();
+        if (const auto *no = std::get_if<Refused>(&last)) return *no;
+        if (!std::holds_alternative<Wanted>(last)) throw Unreadable("no answer to a question");
+        return std::get<Wanted>(last);
+    }
+
     // Puts a frame on record and in the queue. A frame that would drop the building is never passed; one that cannot be a
     // line of the frame table for its length or a line feed inside is refused here, since passing it could push others out.
     std::size_t receive(std::string_view frame, Route route) {
@@ -507,7 +547,7 @@ class Building {
         const std::string_view kind = frame.substr(0, 2);
         if ((kind == "05" && frame.size() == 38) || (kind == "06" && frame.size() == 14))
             if (detail::digits(frame.substr(2, 8))) c.number = static_cast<std::uint32_t>(detail::number(frame.substr(2, 8)));
-        const bool passed_on = kind != "01" && kind != "02" && kind != "03" && kind != "04" && kind != "07";
+        const bool passed_on = kind != "01" && kind != "02" && kind != "03" && kind != "04" && kind != "07" && kind != "0C";
         if (frame.size() > FRAMECHECK_LONGEST_FRAME || frame.find('\n') != std::string_view::npos) c.outcome = Refused{Refusal::broken};
         else if (passed_on) c.outcome = Waiting{};
         const bool queued = c.waiting() != nullptr;
@@ -560,9 +600,9 @@ class Building {
         lines_++;
     }
 
-    // Keeps the tables as an accepted frame leaves them.
+    // Keeps the tables as an accepted frame leaves them; refused frames and questions leave them as they are.
     void note(std::string_view frame, const Answer &answer) {
-        if (std::holds_alternative<Refused>(answer) || std::holds_alternative<PolygonAnswer>(answer)) return;
+        if (!std::holds_alternative<Plain>(answer) && !std::holds_alternative<Report>(answer)) return;
         if (const auto *report = std::get_if<Report>(&answer)) report_ = *report;
         switch (frame[1]) {
         case '1':

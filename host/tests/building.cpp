@@ -56,17 +56,47 @@ void a_day() {
     HOLD(b.lines() == 10 + 7 && Bytes(b.stream()).lines() == b.lines());
 }
 
+// Who uses an edge, asked of a building that is corrected, folded and loaded anew.
+void across_an_edge() {
+    Building b;
+    HOLD(b.across(0, 1) == EdgeReply(Refused{Refusal::wrong_state}));
+    b.load(load_text());
+    const auto as_loaded = [&] {
+        return b.across(0, 1) == EdgeReply(EdgeAnswer{2, 0, 1}) && b.across(3, 0) == EdgeReply(EdgeAnswer{2, 1, 2}) &&
+               b.across(3, 2) == EdgeReply(EdgeAnswer{2, 2, 3}) && b.across(1, 2) == EdgeReply(EdgeAnswer{2, 0, 3});
+    };
+    HOLD(as_loaded());
+    HOLD(b.across(4, 0) == EdgeReply(Refused{Refusal::unknown_number}) && b.across(0, 0xFFFF) == EdgeReply(Refused{Refusal::unknown_number}));
+    HOLD(b.across(2, 2) == EdgeReply(Refused{Refusal::unknown_number}));
+    HOLD(b.lines() == 10 && b.report()->six_volume == 1000000000);
+    b.take_lines(streams::turn(1, 3) + streams::move(2, 3, {0, 0, 2000}) + streams::turn(3, 0), Route::fast);
+    HOLD(as_loaded() && b.report()->check == Check::edge_same_direction);
+    HOLD(b.fold() == Folded::done && as_loaded() && b.last_number() == 3);
+
+    // A load with questions in it is taken as it is, its edge questions beside the others.
+    HOLD(b.load(load_text() + streams::across(0, 1) + streams::question(0) + streams::across(1, 1)).refused.size() == 1);
+    HOLD(b.points() == 4 && b.polygons() == 4 && as_loaded() && b.report()->accepted());
+    HOLD(b.take(streams::turn(1, 2), Route::slow).accepted() && as_loaded());
+
+    // Polygon 1 goes there and back, polygon 3 goes over it once; two points share no edge.
+    b.load(streams::load({"", 0, {{0, 0, 0}, {1000, 0, 0}, {0, 1000, 0}}, {{}, {0, 1, 0}, {2}, {2, 1, 0}}}));
+    HOLD(b.report()->check == Check::few_entries && b.across(1, 0) == EdgeReply(EdgeAnswer{3, 1, 1}));
+    HOLD(b.across(1, 2) == EdgeReply(EdgeAnswer{1, 3, std::nullopt}) && b.across(0, 2) == EdgeReply(EdgeAnswer{}));
+    b.load("010000\n");
+    HOLD(b.across(0, 1) == EdgeReply(Refused{Refusal::wrong_state}));
+}
+
 void what_is_no_correction() {
     Building b;
     HOLD(b.take(streams::turn(1, 0), Route::fast).refused()->refusal == Refusal::wrong_state);
     const Loaded loaded = b.load(load_text());
     HOLD(loaded.before.size() == 1 && b.corrections().empty());
     const std::size_t lines = b.lines();
-    for (const std::string &frame : {std::string("010000"), bare(streams::point({7, 7, 7})), std::string("03"), std::string("04"), std::string("070000")}) {
+    for (const std::string frame : {"010000", "02000000070000000700000007", "03", "04", "070000", "0C00000001"}) {
         const Correction c = b.take(frame, Route::slow);
         HOLD(std::holds_alternative<NotACorrection>(c.outcome) && c.frame == frame);
     }
-    HOLD(b.lines() == lines && b.held() && b.corrections().size() == 5);
+    HOLD(b.lines() == lines && b.held() && b.corrections().size() == 6);
     HOLD(b.take("garbage", Route::fast).refused()->refusal == Refusal::broken);
     HOLD(b.take("", Route::fast).refused()->refusal == Refusal::broken);
     HOLD(b.take("0", Route::fast).refused()->refusal == Refusal::broken);
@@ -135,8 +165,8 @@ void bounds_by_hand() {
     b.load(load_text());
     while (b.waiting() == 0) b.take(std::string(514, 'G'), Route::slow);
     HOLD(b.corrections().back().waiting()->bound == StreamRefusal::too_long);
-    HOLD(b.stream().size() + 32 * 7 <= 65535 && b.stream().size() + 515 + 32 * 7 > 65535);
-    HOLD(std::holds_alternative<PolygonAnswer>(b.question(0)));
+    HOLD(b.stream().size() + 32 * 11 <= 65535 && b.stream().size() + 515 + 32 * 11 > 65535);
+    HOLD(std::holds_alternative<PolygonAnswer>(b.question(0)) && std::holds_alternative<EdgeAnswer>(b.across(0, 1)));
     HOLD(b.fold() == Folded::done && b.lines() == 11 && b.waiting() == 0);
     HOLD(b.refused().size() == b.corrections().size());
     HOLD(b.take(streams::turn(1, 0), Route::fast).accepted()); // nothing was accepted before: number 1 is still free
@@ -211,7 +241,7 @@ void folding_is_not_seen(int rounds) {
         const int count = r.below(60);
         for (int k = 0; k < count && plain.lines() < 990; k++) {
             const std::string frame = bare(streams::any_correction(m, number, r));
-            if (frame.substr(0, 2) == "07") continue;
+            if (frame.substr(0, 2) == "07" || frame.substr(0, 2) == "0C") continue;
             const Correction c = plain.take(frame, r.one_in(2) ? Route::fast : Route::slow);
             whole += frame + "\n";
             if (r.one_in(10)) HOLD(folding.fold() == Folded::done);
@@ -219,6 +249,10 @@ void folding_is_not_seen(int rounds) {
         }
         HOLD(plain.report() == folding.report() && plain.last_number() == folding.last_number());
         HOLD(plain.polygon_answers() == folding.polygon_answers());
+        for (int k = 0; k < 5; k++) {
+            const auto [a, b] = streams::any_edge(m, r);
+            HOLD(plain.across(a, b) == folding.across(a, b));
+        }
         HOLD(plain.stream() == whole);
         const Answers direct = answer_all(whole);
         std::size_t accepted = 0;
@@ -291,6 +325,7 @@ void a_long_history(int rounds) {
 int main(int argc, char **argv) {
     const int rounds = argc > 1 ? std::atoi(argv[1]) : 150;
     a_day();
+    across_an_edge();
     what_is_no_correction();
     loads();
     bounds_by_hand();

@@ -160,6 +160,65 @@ void order_of_refusals() {
     HOLD(last_line(full + "03\n") == "04");
 }
 
+void edge_questions_refused() {
+    const std::string held = streams::load(streams::tetrahedron());
+    for (const char *line : {"0C", "0C0000", "0C0000000", "0C000000010", "0C0000000100", "0c00000001", "0C0000000G"})
+        for (const std::string &before : {std::string(), std::string("010000\n"), held}) HOLD(last_line(before + line + "\n") == "01");
+    HOLD(last_line(streams::across(0, 1)) == "02");
+    HOLD(last_line("010000\n" + streams::across(0, 0)) == "02");
+    HOLD(last_line(held + "010000\n" + streams::across(0, 1)) == "02"); // a begin drops the building
+    HOLD(last_line(held + "0103E9\n" + streams::across(0, 1)) == "00000200000001");
+    for (const auto &[a, b] : {std::pair{4, 0}, std::pair{0, 4}, std::pair{4, 5}, std::pair{0, 0xFFFF}, std::pair{2, 2}, std::pair{9, 9}})
+        HOLD(last_line(held + streams::across(a, b)) == "05");
+    HOLD(last_line("010000\n04\n" + streams::across(0, 1)) == "05");
+    std::string full = "010000\n";
+    for (int i = 0; i < 512; i++) full += streams::point({i, 0, 0});
+    full += streams::polygon({511, 0, 510, 511}) + "04\n";
+    HOLD(last_line(full + streams::across(0, 511)) == "0000010000FFFF");
+    HOLD(last_line(full + streams::across(511, 510)) == "0000010000FFFF");
+    HOLD(last_line(full + streams::across(511, 512)) == "05");
+}
+
+// The edges of the tetrahedron in either order, as they were loaded and after corrections: a move and a turn alter no users.
+void edges_of_the_tetrahedron() {
+    const std::string loaded = streams::load(streams::tetrahedron());
+    const std::string corrected = loaded + streams::move(1, 3, {0, 0, 2000}) + streams::turn(2, 3) + streams::turn(3, 0) + streams::turn(4, 0);
+    const std::array<std::array<int, 4>, 6> edges{{{0, 1, 0, 1}, {0, 2, 0, 2}, {0, 3, 1, 2}, {1, 2, 0, 3}, {1, 3, 1, 3}, {2, 3, 2, 3}}};
+    for (const auto &[a, b, first, second] : edges) {
+        const std::string expected = "000002000" + std::to_string(first) + "000" + std::to_string(second);
+        for (const auto &stream : {loaded, corrected}) {
+            HOLD(last_line(stream + streams::across(a, b)) == expected);
+            HOLD(last_line(stream + streams::across(b, a)) == expected);
+        }
+    }
+    const Answers all = answer_all(loaded + streams::across(3, 0) + streams::question(0) + streams::turn(1, 0));
+    HOLD(all.lines[10] == Answer(EdgeAnswer{2, 1, 2})); // and it changes nothing held
+    HOLD(all.lines[11] == Answer(PolygonAnswer{Finding::none, {}, 0, 0}));
+    HOLD(std::holds_alternative<Report>(all.lines[12]));
+}
+
+// Rings that are open, short or faulty have edges too; users are counted with repetition, and so are the two lowest.
+void edges_of_any_rings() {
+    const std::vector<streams::Place> places{{0, 0, 0}, {1000, 0, 0}, {0, 1000, 0}, {0, 0, 1000}};
+    const auto users = [&](const std::vector<streams::Ring> &rings, int a, int b) {
+        return last_line(streams::load({"", 0, places, rings}) + streams::across(a, b));
+    };
+    HOLD(users({}, 0, 1) == "000000FFFFFFFF" && users({{}, {0}}, 0, 1) == "000000FFFFFFFF");
+    HOLD(users({{0, 1, 0}}, 0, 1) == "00000200000000"); // there and back
+    HOLD(users({{2, 3}}, 3, 2) == "0000010000FFFF" && users({{2, 3}}, 2, 1) == "000000FFFFFFFF");
+    HOLD(users({{}, {0, 1, 2, 3}}, 2, 3) == "0000010001FFFF"); // open: no edge from its last entry to its first
+    HOLD(users({{}, {0, 1, 2, 3}}, 3, 0) == "000000FFFFFFFF");
+    const streams::Ring twice{0, 0, 1, 1, 2, 0}; // steps from a number to itself are no edges
+    HOLD(users({twice}, 0, 1) == "0000010000FFFF" && users({twice}, 1, 2) == "0000010000FFFF" && users({twice}, 2, 0) == "0000010000FFFF");
+    const std::vector<streams::Ring> many{{}, {2, 3, 2}, {}, {0, 1, 0}, {3}, {2, 1, 0}, {0, 1, 2}};
+    HOLD(users(many, 0, 1) == "00000400030003");
+    HOLD(users({many.begin(), many.begin() + 6}, 0, 1) == "00000300030003");
+    HOLD(users(many, 1, 2) == "00000200050006" && users(many, 3, 2) == "00000200010001" && users(many, 3, 0) == "000000FFFFFFFF");
+    streams::Ring longest; // 128 entries there and back: 127 users of one edge in each of eight rings, the most there are
+    for (int i = 0; i < 128; i++) longest.push_back(i % 2);
+    HOLD(users(std::vector<streams::Ring>(8, longest), 1, 0) == "0003F800000000");
+}
+
 Position entry(std::uint16_t index) { return {Position::Of::entry, index}; }
 Position edge(std::uint16_t index) { return {Position::Of::edge, index}; }
 
@@ -202,11 +261,32 @@ bool unreadable(std::string_view frame, std::string_view line) {
     return false;
 }
 
+void edge_answers_are_typed() {
+    HOLD(read_answer("0C00000001", "000000FFFFFFFF") == Answer(EdgeAnswer{}));
+    HOLD(read_answer("0C00000001", "000001000AFFFF") == Answer(EdgeAnswer{1, 10, std::nullopt}));
+    HOLD(read_answer("0C00000001", "000002000000FF") == Answer(EdgeAnswer{2, 0, 255}));
+    HOLD(read_answer("0C00000001", "0003F800FF00FF") == Answer(EdgeAnswer{1016, 255, 255}));
+    // A user named though there is none, a second beside one, none though there are, out of order, and numbers beyond the bounds.
+    for (const char *bad : {"0000000000FFFF", "000000FFFF0000", "00000000000000", "00000100000001", "000001FFFFFFFF", "000001FFFF0000",
+                            "0000020000FFFF", "000002FFFFFFFF", "000002FFFF0000", "00000200010000", "00000300020001", "0000010100FFFF",
+                            "00000200000100", "00FFFF00000000"})
+        HOLD(unreadable("0C00000001", bad));
+    for (const char *bad : {"", "0", "00", "08", "0C000000000000", "00000200000001 ", "0000020000000a", "0000020000000", "000002000000010"})
+        HOLD(unreadable("0C00000001", bad));
+    HOLD(unreadable("0C00000001", std::string(32, '0')));
+    for (const char *kind : {"", "01", "03", "04", "06", "07", "0c", "no frame"}) HOLD(unreadable(kind, "00000200000001"));
+
+    HOLD(EdgeAnswer{2, 3, 5}.across_from(3) == 5 && EdgeAnswer{2, 3, 5}.across_from(5) == 3 && !EdgeAnswer{2, 3, 5}.across_from(4));
+    HOLD(EdgeAnswer{2, 3, 3}.across_from(3) == 3);
+    HOLD(!EdgeAnswer{1, 3, std::nullopt}.across_from(3) && !EdgeAnswer{3, 3, 5}.across_from(3) && !EdgeAnswer{}.across_from(0xFFFF));
+    HOLD(!(EdgeAnswer{2, 3, 5} == EdgeAnswer{3, 3, 5}) && !(EdgeAnswer{2, 3, 5} == EdgeAnswer{2, 3, 4}));
+}
+
 void answers_are_typed() {
     for (const char *kind : {"01", "02", "03"}) HOLD(std::holds_alternative<Plain>(read_answer(kind, "00")));
-    for (const char *kind : {"", "04", "05", "06", "07", "no frame"}) HOLD(unreadable(kind, "00"));
+    for (const char *kind : {"", "04", "05", "06", "07", "0C", "no frame"}) HOLD(unreadable(kind, "00"));
     for (int n = 1; n <= 7; n++)
-        for (const char *kind : {"", "01", "04", "07", "no frame"})
+        for (const char *kind : {"", "01", "04", "07", "0C", "no frame"})
             HOLD(read_answer(kind, "0" + std::to_string(n)) == Answer(Refused{static_cast<Refusal>(n)}));
     for (const char *kind : {"04", "05", "06"}) {
         HOLD(read_answer(kind, "000D000100020003FFFFFFFFFFFFFFFF") == Answer(Report{Check::no_volume, 1, 2, 3, -1}));
@@ -254,8 +334,12 @@ int main(int argc, char **argv) {
     whole_stream_refusals();
     examples_at_the_edges();
     order_of_refusals();
+    edge_questions_refused();
+    edges_of_the_tetrahedron();
+    edges_of_any_rings();
     positions();
     answers_are_typed();
+    edge_answers_are_typed();
     fenced_streams(argc > 1 ? std::atoi(argv[1]) : 500);
     return test::finish();
 }
