@@ -38,6 +38,16 @@ std::vector<std::string> lines_in(const std::string &text) {
     return lines;
 }
 
+// What an answer says, in few words.
+std::string kind_of(const std::string &frame, const std::string &answer) {
+    if (answer == "00") return "plain";
+    if (answer.size() == 2) return "refusal " + answer + (frame.substr(0, 2) == "0C" ? " of an edge question" : "");
+    if (frame[1] == '7') return "question, finding " + answer.substr(2, 2);
+    if (frame[1] != 'C') return "report " + answer.substr(2, 2);
+    const std::string users = answer.substr(2, 4), first = answer.substr(6, 4), second = answer.substr(10);
+    return "edge question, users " + (users <= "0003" ? users.substr(3) : "more") + (first == second && first != "FFFF" ? ", one twice" : "");
+}
+
 } // namespace
 
 int main(int argc, char **argv) {
@@ -67,12 +77,9 @@ int main(int argc, char **argv) {
             continue;
         }
         const auto frames = lines_in(stream), answers = lines_in({plain.room.begin(), plain.room.begin() + plain.result});
-        for (std::size_t i = 0; i < answers.size(); i++) {
-            if (answers[i].size() == 2) seen[answers[i] == "00" ? "plain" : "refusal " + answers[i]]++;
-            else seen[(frames[i][1] == '7' ? "question, finding " : "report ") + answers[i].substr(2, 2)]++;
-        }
+        for (std::size_t i = 0; i < answers.size(); i++) seen[kind_of(frames[i], answers[i])]++;
     }
-    for (const auto &[what, times] : seen) std::printf("%-28s %llu\n", what.c_str(), static_cast<unsigned long long>(times));
+    for (const auto &[what, times] : seen) std::printf("%-36s %llu\n", what.c_str(), static_cast<unsigned long long>(times));
     std::printf("%llu passed, %llu failed\n", static_cast<unsigned long long>(count - failed), static_cast<unsigned long long>(failed));
     return failed == 0 ? 0 : 1;
 }

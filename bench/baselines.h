@@ -11,7 +11,7 @@ extern "C" {
 std::int64_t framecheck_plain_answer(const std::uint8_t *stream, std::size_t stream_len, std::uint8_t *room,
                                      std::size_t room_len);
 
-// Keeps findings, parts and the shape between reports; no heap, boxes before exact tests, table-driven decoding.
+// Keeps findings, parts, the list of edges and the shape between reports; no heap, boxes before exact tests, table-driven decoding.
 std::int64_t framecheck_tuned_answer(const std::uint8_t *stream, std::size_t stream_len, std::uint8_t *room,
                                      std::size_t room_len);
 

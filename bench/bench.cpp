@@ -1,5 +1,5 @@
-// Times the checker beside the baselines on ten buildings, on rings that fail and on loads numbered at random, in one run, whole and
-// by stages, and measures the stack. No time is printed unless all agree on every answer byte of every stream that is timed. Usage:
+// Times the checker beside the baselines on ten buildings, on rings that fail, on loads numbered at random and on edge questions, in one
+// run, whole and by stages, and measures the stack. No time is printed unless all agree on every answer byte of every stream that is timed. Usage:
 // bench NAME [samples], NAME of what is linked.
 // The AVX-512 baseline takes part where it is built in (WITH_AVX512): it is timed on loads alone, since it keeps nothing.
 #include "baselines.h"
@@ -56,8 +56,12 @@ Case make_case(const streams::Model &m, const std::string &stream) {
     return {m.name, stream, m.points.size(), m.rings.size(), entries};
 }
 
-Case make_case(const streams::Model &m, bool corrected) {
-    return make_case(m, corrected ? streams::with_corrections(m) : streams::load(m));
+Case make_load(const streams::Model &m) { return make_case(m, streams::load(m)); }
+
+std::vector<Case> make_loads(const std::vector<streams::Model> &models) {
+    std::vector<Case> cases;
+    for (const auto &m : models) cases.push_back(make_load(m));
+    return cases;
 }
 
 // A building's stream as it grows: begin and points, the polygons too, the end of load too, and 300 frames more.
@@ -198,6 +202,27 @@ void stages(const char *linked, const std::vector<Stages> &buildings, int sample
     }
 }
 
+// What one edge question adds to a load: the median of the differences within a round, by the number of questions.
+void edge_questions(const char *linked, const std::vector<streams::Model> &models, int samples) {
+    std::printf("\n%d edge questions after a load; nanoseconds that each adds\n", streams::edge_questions);
+    std::printf("%-20s %5s | %9s %9s %9s | %7s %7s\n", "building", "polyg", linked, "plain", "tuned", "/plain", "/tuned");
+    for (const auto &m : models) {
+        std::vector<Timed> timed;
+        for (const auto &stream : {streams::load(m), streams::with_edge_questions(m)})
+            for (Entry entry : all_three) timed.push_back({entry, stream});
+        const auto times = samples_of(timed, samples);
+        std::vector<double> each;
+        for (std::size_t e = 0; e < all_three.size(); e++) {
+            const auto &alone = times[e], &asked = times[e + all_three.size()];
+            std::vector<double> added;
+            for (std::size_t s = 0; s < std::min(alone.size(), asked.size()); s++) added.push_back(asked[s] - alone[s]);
+            each.push_back(median(added) * 1e9 / streams::edge_questions);
+        }
+        std::printf("%-20s %5zu | %9.1f %9.1f %9.1f | %7.3f %7.2f\n", m.name.c_str(), m.rings.size(), each[0], each[1], each[2],
+                    each[0] / each[1], each[0] / each[2]);
+    }
+}
+
 void growth(const char *title, const char *linked, const std::vector<Case> &cases, int samples) {
     std::printf("\n%s; nanoseconds of a load by polygon, by byte\n", title);
     std::printf("%-20s %6s %5s %5s | %9s %7s | %9s %7s | %9s %7s\n", "building", "bytes", "polyg", "entr", linked, "", "plain", "",
@@ -268,45 +293,70 @@ void machine() {
                 __VERSION__, load.substr(0, load.find(' ')).c_str());
 }
 
+// ---- what is timed ------------------------------------------------------------------------------------------------
+
+struct Buildings {
+    std::vector<Case> loads = make_loads(streams::ten_buildings()), corrected, late, turned, asked;
+    std::vector<Case> early = make_loads(streams::rings_that_fail_early()), numbered = make_loads(streams::numbered_at_random());
+    std::vector<Case> balls, roofs, towers, thin;
+    std::vector<Stages> by_stage;
+    std::vector<streams::Model> of_edges{streams::ball("ball, 256 triangles", 8, 16), streams::tower("40-storey tower", 40),
+                                         streams::prism("127-gon prism", streams::star(127, 50000, 50000), 9000, 44)};
+
+    Buildings() {
+        for (const auto &m : streams::ten_buildings()) {
+            by_stage.push_back(make_stages(m));
+            corrected.push_back(make_case(m, streams::with_corrections(m)));
+        }
+        for (int check : {3, 5, 6}) {
+            const auto m = streams::late_rings("0" + std::to_string(check) + " found late", check);
+            late.push_back(make_load(m));
+            turned.push_back(make_case(m, streams::with_turns(m)));
+        }
+        for (const auto &m : of_edges) asked.push_back(make_case(m, streams::with_edge_questions(m)));
+        for (const auto &m : streams::rings_that_fail_early()) asked.push_back(make_case(m, streams::with_edge_questions(m)));
+        grow();
+    }
+
+    void grow() {
+        for (const auto &[rings, around] : {std::pair{1, 8}, std::pair{2, 8}, std::pair{4, 8}, std::pair{4, 16}, std::pair{8, 16}})
+            balls.push_back(make_load(streams::ball("ball", rings, around)));
+        for (int n : {4, 8, 16, 32, 64, 127})
+            roofs.push_back(make_load(streams::prism(std::to_string(n) + "-corner roof", streams::star(n, 30000, 50000), 9000)));
+        for (int storeys : {12, 25, 50}) towers.push_back(make_load(streams::tower(std::to_string(storeys) + "-storey tower", storeys)));
+        for (int n : {4, 5, 8, 40, 127}) thin.push_back(make_load(streams::thin_rings("rings of " + std::to_string(n), n)));
+    }
+
+    std::vector<Case> every() const {
+        std::vector<Case> all;
+        for (const auto *some : {&loads, &corrected, &late, &turned, &early, &asked, &numbered, &balls, &roofs, &towers, &thin})
+            all.insert(all.end(), some->begin(), some->end());
+        return all;
+    }
+};
+
 } // namespace
 
 int main(int argc, char **argv) {
     const char *linked = argc > 1 ? argv[1] : "checker";
     const int samples = argc > 2 ? std::max(3, std::atoi(argv[2])) : 301;
-    std::vector<Case> loads, corrected, late, turned, numbered, balls, roofs, towers, thin, every;
-    std::vector<Stages> by_stage;
-    for (const auto &m : streams::ten_buildings()) {
-        by_stage.push_back(make_stages(m));
-        loads.push_back(make_case(m, false));
-        corrected.push_back(make_case(m, true));
-    }
-    for (int check : {3, 5, 6}) {
-        const auto m = streams::late_rings("0" + std::to_string(check) + " found late", check);
-        late.push_back(make_case(m, false));
-        turned.push_back(make_case(m, streams::with_turns(m)));
-    }
-    for (const auto &m : streams::numbered_at_random()) numbered.push_back(make_case(m, false));
-    for (const auto &[rings, around] : {std::pair{1, 8}, std::pair{2, 8}, std::pair{4, 8}, std::pair{4, 16}, std::pair{8, 16}})
-        balls.push_back(make_case(streams::ball("ball", rings, around), false));
-    for (int n : {4, 8, 16, 32, 64, 127})
-        roofs.push_back(make_case(streams::prism(std::to_string(n) + "-corner roof", streams::star(n, 30000, 50000), 9000), false));
-    for (int storeys : {12, 25, 50}) towers.push_back(make_case(streams::tower(std::to_string(storeys) + "-storey tower", storeys), false));
-    for (int n : {4, 5, 8, 40, 127}) thin.push_back(make_case(streams::thin_rings("rings of " + std::to_string(n), n), false));
-    for (const auto *some : {&loads, &corrected, &late, &turned, &numbered, &balls, &roofs, &towers, &thin})
-        every.insert(every.end(), some->begin(), some->end());
+    const Buildings b;
+    const std::vector<Case> every = b.every();
     for (const auto &c : every) must_agree(c);
 
     machine();
     std::printf("all agree on the %zu streams; medians of %d samples at most, whole calls, processor time\n", every.size(), samples);
-    table("loads", linked, loads, samples, true);
-    table("loads with 50 moves, 50 turns and 200 questions", linked, corrected, samples, false);
-    table("loads of eight rings of 127 that fail at a late position", linked, late, samples, true);
-    table("the same with 100 turns and 100 questions", linked, turned, samples, false);
-    table("loads numbered at random (two balls: report 0B)", linked, numbered, samples, true);
-    stages(linked, by_stage, samples);
-    growth("growth with polygons (balls of triangles)", linked, balls, samples);
-    growth("growth with the corners of one roof (prisms)", linked, roofs, samples);
-    growth("growth with the storeys of a tower numbered from the top down", linked, towers, samples);
-    growth("growth with the entries of rings on a line, which check 03 is asked of", linked, thin, samples);
+    table("loads", linked, b.loads, samples, true);
+    table("loads with 50 moves, 50 turns and 200 questions", linked, b.corrected, samples, false);
+    table("loads of eight rings of 127 that fail at a late position", linked, b.late, samples, true);
+    table("the same with 100 turns and 100 questions", linked, b.turned, samples, false);
+    table("loads whose rings fail 01 to 03 early", linked, b.early, samples, false);
+    table("loads numbered at random (two balls: report 0B)", linked, b.numbered, samples, true);
+    edge_questions(linked, b.of_edges, samples);
+    stages(linked, b.by_stage, samples);
+    growth("growth with polygons (balls of triangles)", linked, b.balls, samples);
+    growth("growth with the corners of one roof (prisms)", linked, b.roofs, samples);
+    growth("growth with the storeys of a tower numbered from the top down", linked, b.towers, samples);
+    growth("growth with the entries of rings on a line, which check 03 is asked of", linked, b.thin, samples);
     stacks(linked, every);
 }

@@ -75,6 +75,7 @@ std::optional<Frame> decode(std::string_view line) {
     case 5: fits = size == 38; break;
     case 6: fits = size == 14; break;
     case 7: fits = size == 6; break;
+    case 12: fits = size == 10; break;
     default: break;
     }
     if (!fits) return std::nullopt;
@@ -234,6 +235,18 @@ class Building {
                hex(static_cast<std::uint64_t>(part(polygon.ring)), 16);
     }
 
+    // Every step of every ring is looked at; polygons come in their order, so that the first two met are the lowest.
+    std::string users(Edge edge) const {
+        std::vector<std::size_t> met;
+        for (std::size_t p = 0; p < polygons.size(); p++) {
+            const Ring &ring = polygons[p].ring;
+            for (std::size_t i = 0; i + 1 < ring.size(); i++)
+                if (Edge(std::minmax(ring[i], ring[i + 1])) == edge) met.push_back(p);
+        }
+        const auto user = [&](std::size_t k) { return hex(k < met.size() ? met[k] : 0xFFFF, 4); };
+        return "00" + hex(met.size(), 4) + user(0) + user(1);
+    }
+
   private:
     // Checks 07 to 0C, tried where no polygon has a finding.
     Verdict shape() const {
@@ -323,7 +336,8 @@ class Service {
         case 4: return end();
         case 5: return move(frame->fields);
         case 6: return turn_over(frame->fields);
-        default: return question(frame->fields);
+        case 7: return question(frame->fields);
+        default: return across(frame->fields);
         }
     }
 
@@ -406,6 +420,12 @@ class Service {
         const auto which = number(fields);
         if (which >= building.polygons.size()) return "05";
         return building.question(building.polygons[which]);
+    }
+
+    std::string across(std::string_view fields) const {
+        const auto a = number(fields.substr(0, 4)), b = number(fields.substr(4));
+        if (std::max(a, b) >= building.points.size() || a == b) return "05";
+        return building.users({static_cast<std::uint16_t>(std::min(a, b)), static_cast<std::uint16_t>(std::max(a, b))});
     }
 };
 

@@ -1,5 +1,5 @@
 // Buildings and streams for the benchmark, the tests and the fuzz seeds: the ten buildings that are timed, some that are numbered at
-// random, and a generator of random and damaged streams from a number.
+// random, some with rings that fail, and a generator of random and damaged streams from a number.
 #ifndef FRAMECHECK_STREAMS_HPP
 #define FRAMECHECK_STREAMS_HPP
 
@@ -61,6 +61,10 @@ inline std::string turn(std::uint32_t number, int which) {
 }
 
 inline std::string question(int which) { return "07" + hex(static_cast<std::uint64_t>(which), 4) + "\n"; }
+
+inline std::string across(int a, int b) {
+    return "0C" + hex(static_cast<std::uint64_t>(a), 4) + hex(static_cast<std::uint64_t>(b), 4) + "\n";
+}
 
 inline std::string load(const Model &m) {
     std::string text = begin(m.tolerance);
@@ -220,6 +224,21 @@ inline Model late_rings(std::string name, int check) {
     return m;
 }
 
+// Loads whose rings fail 01 to 03 early, so that little is left to do for them but the list of edges: a ball with one ring short or
+// open, or all open; the eight stars left open, or with a number that comes again two entries later, so that a ring uses an edge twice.
+inline std::vector<Model> rings_that_fail_early() {
+    Model one_short = ball("ball, one ring short", 8, 16), one_open = ball("ball, one ring open", 8, 16);
+    one_short.rings[0].pop_back();
+    one_open.rings[0].back() = one_open.rings[0][1];
+    Model all_open = ball("ball, rings open", 8, 16), open = eight_rings(), again = eight_rings();
+    for (auto &ring : all_open.rings) ring.back() = ring[1];
+    for (auto &ring : open.rings) ring.back() = ring[1];
+    for (auto &ring : again.rings) ring[2] = ring[0];
+    open.name = "eight rings open";
+    again.name = "eight rings, 03";
+    return {one_short, one_open, all_open, open, again};
+}
+
 // As many rings of n entries as fit, over points on one line, each from another point on: they pass 01 to 03 and fail 04, where a sound
 // ring that is convex would never come to 03.
 inline Model thin_rings(std::string name, int n) {
@@ -314,6 +333,27 @@ inline std::string with_turns(const Model &m) {
     for (int k = 0; k < 100; k++) {
         const int which = k % static_cast<int>(m.rings.size());
         text += turn(static_cast<std::uint32_t>(k + 1), which) + question(which);
+    }
+    return text;
+}
+
+// Two points: the ends of a step that some ring makes, taken here and there and in either order, and now and then two that may share
+// no edge.
+inline std::pair<int, int> edge_to_ask(const Model &m, int k) {
+    const auto &ring = m.rings[static_cast<std::size_t>(k * 37) % m.rings.size()];
+    const std::size_t at = static_cast<std::size_t>(k * 11) % (ring.size() - 1);
+    const int points = static_cast<int>(m.points.size()), a = ring[at], b = k % 10 == 9 ? (a + points / 2) % points : ring[at + 1];
+    return k % 2 == 0 ? std::pair{a, b} : std::pair{b, a};
+}
+
+constexpr int edge_questions = 300;
+
+// The load, then edge questions.
+inline std::string with_edge_questions(const Model &m) {
+    std::string text = load(m);
+    for (int k = 0; k < edge_questions; k++) {
+        const auto [a, b] = edge_to_ask(m, k);
+        text += across(a, b);
     }
     return text;
 }
@@ -577,12 +617,27 @@ inline Model any_model(Random &r) {
     }
 }
 
+// An entry comes twice in a row: a step from a number to itself.
+inline void stutter(Ring &ring, Random &r) {
+    if (ring.empty()) return;
+    const int at = r.below(static_cast<int>(ring.size()));
+    ring.insert(ring.begin() + at, ring[static_cast<std::size_t>(at)]);
+}
+
+// A step is made, taken back and made again: its edge has three uses of one ring.
+inline void there_and_back(Ring &ring, Random &r) {
+    if (ring.size() < 2) return;
+    const int at = r.below(static_cast<int>(ring.size()) - 1);
+    const int from = ring[static_cast<std::size_t>(at)], to = ring[static_cast<std::size_t>(at) + 1];
+    ring.insert(ring.begin() + at, {from, to});
+}
+
 // Small faults in the tables themselves.
 inline void disturb(Model &m, Random &r) {
     const int times = r.one_in(2) ? 0 : r.from_to(1, 3);
     for (int t = 0; t < times && !m.rings.empty(); t++) {
         auto &ring = m.rings[static_cast<std::size_t>(r.below(static_cast<int>(m.rings.size())))];
-        switch (r.below(7)) {
+        switch (r.below(9)) {
         case 0: std::reverse(ring.begin(), ring.end()); break;
         case 1: std::swap(ring, m.rings.back()); m.rings.pop_back(); break;
         case 2: m.rings.push_back(ring); break;
@@ -591,6 +646,8 @@ inline void disturb(Model &m, Random &r) {
         case 5:
             if (ring.size() > 2) std::swap(ring[1], ring[ring.size() - 2]);
             break;
+        case 6: stutter(ring, r); break;
+        case 7: there_and_back(ring, r); break;
         default: {
             auto &p = m.points[static_cast<std::size_t>(r.below(static_cast<int>(m.points.size())))];
             p[static_cast<std::size_t>(r.below(3))] += r.from_to(-30, 30);
@@ -617,6 +674,32 @@ inline Place any_place(const Model &m, Random &r) {
     return p;
 }
 
+// Two points to ask for: mostly a step that some ring makes, in either order, else any two, equal or unknown ones too.
+inline std::pair<int, int> any_edge(const Model &m, Random &r) {
+    const int points = static_cast<int>(m.points.size());
+    int a = r.below(points + (r.one_in(15) ? 1 : 0)), b = r.one_in(10) ? a : r.below(points + (r.one_in(15) ? 1 : 0));
+    if (r.one_in(60)) a = r.one_in(2) ? 0xFFFF : 512;
+    if (!m.rings.empty() && !r.one_in(4)) {
+        const auto &ring = m.rings[static_cast<std::size_t>(r.below(static_cast<int>(m.rings.size())))];
+        const auto at = static_cast<std::size_t>(r.below(static_cast<int>(ring.size()) - 1));
+        if (ring.size() >= 2) a = ring[at], b = ring[at + 1];
+    }
+    return r.one_in(2) ? std::pair{a, b} : std::pair{b, a};
+}
+
+inline std::string any_edge_question(const Model &m, Random &r) {
+    const auto [a, b] = any_edge(m, r);
+    return across(a, b);
+}
+
+// Edge questions between a load's lines, where no building is held or the one before is dropped.
+inline void ask_early(std::string &load, const Model &m, Random &r) {
+    for (int times = r.from_to(1, 3); times > 0; times--) {
+        const std::size_t end = load.find('\n', static_cast<std::size_t>(r.below(static_cast<int>(load.size()))));
+        load.insert(r.one_in(4) || end == std::string::npos ? 0 : end + 1, any_edge_question(m, r));
+    }
+}
+
 inline std::string any_correction(const Model &m, std::uint32_t &number, Random &r) {
     const int points = static_cast<int>(m.points.size()), polygons = static_cast<int>(m.rings.size());
     std::uint32_t n = number + static_cast<std::uint32_t>(r.from_to(1, 3));
@@ -626,6 +709,7 @@ inline std::string any_correction(const Model &m, std::uint32_t &number, Random 
     const int slack = r.one_in(15) ? 1 : 0;
     if (r.one_in(3)) return turn(n, r.below(polygons + slack));
     if (r.one_in(4)) return question(r.below(polygons + slack));
+    if (r.one_in(4)) return any_edge_question(m, r);
     const int which = r.below(points + slack);
     Place to = any_place(m, r);
     if (which < points && !r.one_in(3)) { // near where it was loaded
@@ -656,7 +740,7 @@ inline void damage(std::string &text, Random &r) {
     }
 }
 
-// One stream from a number: one to three loads with corrections and questions, sometimes out of order, sometimes damaged.
+// One stream from a number: one to three loads with corrections and questions of both kinds, sometimes out of order, sometimes damaged.
 inline std::string any_stream(std::uint64_t seed) {
     Random r(seed);
     std::string text;
@@ -674,12 +758,14 @@ inline std::string any_stream(std::uint64_t seed) {
             now += end_of_load();
         }
         if (r.one_in(12)) now = now.substr(0, now.size() - 3); // no end of load
+        if (r.one_in(10)) ask_early(now, m, r);
         if (r.one_in(12)) now += point(any_place(m, r)) + polygon({0, 1, 2, 0});
         std::uint32_t number = r.one_in(20) ? 0xFFFFFFF0u : 0;
         const int corrections = r.one_in(4) ? 0 : r.below(r.one_in(5) ? 120 : 25);
         for (int c = 0; c < corrections; c++) now += any_correction(m, number, r);
         const int asked = std::min(static_cast<int>(m.rings.size()), r.below(12));
         for (int p = 0; p < asked; p++) now += question(p);
+        for (int k = r.one_in(2) ? r.below(20) : 0; k > 0; k--) now += any_edge_question(m, r);
         text += now;
     }
     if (r.one_in(40)) // about the bounds of the stream
