@@ -17,7 +17,7 @@ use Rattle.edges.specs.held.Ascending.{Asc}
 use Rattle.edges.specs.laws.Ascending.{places-asc}
 use Rattle.words.specs.held.Words.{keyOf, polyOf}
 use Rattle.shell.specs.laws.Pairs.{ofEdge}
-use Rattle.users.specs.held.Users.{usersIn, Bound, UserAt, Told}
+use Rattle.users.specs.held.Users.{usersIn, Halving, Bound, UserAt, Told}
 use Rattle.users.specs.laws.Keeps.{keep-append, keep-none, keep-all}
 
 -- ---- the edge between two points
@@ -29,16 +29,24 @@ pub edge-down : (a b : ℕ) → b ≤ a → b * 65536 + a ≡ edge a b
 unfolding edge way
 edge-down a b h = omega arith
 
--- ---- the search: before lo stand words of edges below e, and from hi on none
-pub record Halving (words : List ℕ) (e lo hi : ℕ) : Type 0 where
-  pub order : lo ≤ hi
-  pub within : hi ≤ length words
-  pub below : (i : ℕ) → i < lo → keyOf (getD words i 0) < e
-  pub above : (i : ℕ) → hi ≤ i → i < length words → e ≤ keyOf (getD words i 0)
-
+-- ---- the search
 module _ (words : List ℕ) (e : ℕ) where
-  pub halving-none : Halving words e 0 (length words)
-  halving-none = record { order = omega arith; within = le-refl (length words); below = λ i h. absurd (omega arith); above = λ i h g. absurd (omega arith) }
+  pub halving-none : (n : ℕ) → n ≡ length words → Halving words e 0 n
+  halving-none n z = record { order = omega arith; within = omega arith; below = λ i h. absurd (omega arith); above = λ i h g. absurd (omega arith) }
+
+  -- from where the words of edge e begin, those of the next edge are looked for: up to the end, or up to a word that is past e
+  module _ (from : ℕ) (b : Bound words e from) where
+    pub halving-rest : (n : ℕ) → n ≡ length words → Halving words (e + 1) from n
+    halving-rest n z = record { order = omega (arith, b .within); within = omega arith; below = λ i h. omega (arith, b .below i h); above = λ i h g. absurd (omega arith) }
+
+    pub halving-few : Asc words → (hi : ℕ) → from ≤ hi → hi < length words → e < keyOf (getD words hi 0) → Halving words (e + 1) from hi
+    halving-few a hi g h t =
+        record {
+          order = g;
+          within = omega arith;
+          below = λ i k. omega (arith, b .below i k);
+          above = λ i k l. let q : getD words hi 0 ≤ getD words i 0 = places-asc words a hi i k l in omega arith;
+        }
 
   module _ (a : Asc words) (lo hi : ℕ) (s : Halving words e lo hi) (mid : ℕ) (g : lo ≤ mid) (h : mid < hi) where
     pub halving-up : keyOf (getD words mid 0) < e → Halving words e (mid + 1) hi

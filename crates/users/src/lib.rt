@@ -1,11 +1,11 @@
 // The users of an edge, read off the sorted words of the edge table: a word is an edge and then a polygon, so the words of one edge
 // stand together, the lowest polygon first.
 ghost use mathlib.Core.Path.{_≡_};
-ghost use Prim.Native.Nat.{_<_, _≤_};
+ghost use Prim.Native.Nat.{_+_, _<_, _≤_};
 ghost use lib.ListN.{length, take};
 ghost use Rattle.edges.specs.Edges.{edge};
 ghost use Rattle.edges.specs.held.Ascending.{Asc};
-ghost use Rattle.users.specs.held.Users.{usersIn, Bound, UserAt, Told};
+ghost use Rattle.users.specs.held.Users.{usersIn, Halving, Bound, UserAt, Told};
 
 // The number of users of an edge and the two lowest, 65,535 where there is none.
 pub struct Users {
@@ -26,13 +26,14 @@ fn edge_of(a: u16, b: u16) -> u64
     b * 65536 + a
 }
 
-// Where the words of edge e and of those after it begin. By halves: a question is answered in some 20 reads, however many words.
-fn first_of(words: &[u64], e: u64) -> usize
-    requires { ⌜ Asc (now words) ⌝ }
+// Where the words of edge e and of those after it begin: not before `low`, and not after `high`. By halves: some 10 reads, however
+// many words.
+fn first_of(words: &[u64], e: u64, low: usize, high: usize) -> usize
+    requires { ⌜ Asc (now words) × Halving (now words) e low high ⌝ }
     ensures { λ r. ⌜ Bound (now (words .entry)) e r ⌝ }
 {
-    let mut lo = 0;
-    let mut hi = words.len();
+    let mut lo = low;
+    let mut hi = high;
     while lo < hi {
         let mid = lo + (hi - lo) / 2;
         if words::key_of(words[mid]) < e {
@@ -42,6 +43,21 @@ fn first_of(words: &[u64], e: u64) -> usize
         }
     }
     lo
+}
+
+// Where the words of edge e end, which begin at `from`. Most edges have two users at the most, and then there are two words left to
+// search.
+fn end_of(words: &[u64], e: u64, from: usize) -> usize
+    requires { ⌜ Asc (now words) × Bound (now words) e from × (length (now words) ≤ 1024) × (e < 4294967296) ⌝ }
+    ensures { λ r. ⌜ Bound (now (words .entry)) (e + 1) r ⌝ }
+{
+    let n = words.len();
+    if from + 2 < n {
+        if e < words::key_of(words[from + 2]) {
+            return first_of(words, e + 1, from, from + 2);
+        }
+    }
+    first_of(words, e + 1, from, n)
 }
 
 // The polygon of the word at i, where it stands before `end`.
@@ -63,8 +79,8 @@ pub fn users_of(table: &[u64; 1024], count: usize, a: u16, b: u16) -> Users
     let all = &table[..];
     let words = &all[..count];
     let e = edge_of(a, b);
-    let from = first_of(words, e);
-    let to = first_of(words, e + 1);
+    let from = first_of(words, e, 0, count);
+    let to = end_of(words, e, from);
     let lowest = user_at(words, from, to);
     let second = user_at(words, from + 1, to);
     let users = to - from;

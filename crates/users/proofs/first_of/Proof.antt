@@ -1,19 +1,20 @@
 -- `users::first_of` meets its contract. The loop keeps: before lo stand words of edges below e, and from hi on none.
 use Prim.Native.Nat.{_+_, _-_, _/_}
 use native.Mathlib.Omega.{arith}
-use Rattle.users.proofs.Search.{Halving, halving-none, halving-up, halving-down, halving-done}
+use Rattle.users.proofs.Search.{halving-up, halving-down, halving-done}
+use Rattle.users.specs.held.Users.{Halving}
 use borrow.Author.Needs.{needs}
 use Rattle.users.proofs.first_of.Statement.{statement}
 use Rattle.users.proofs.first_of.Tie as tie
 
 abbrev Inv-loop : tie.InvT-loop
-Inv-loop words e lo₀ hi₀ lo hi = Halving words e lo hi
+Inv-loop words e low high lo₀ hi₀ lo hi = Halving words e lo hi
 
 abbrev μ-loop : tie.MeasureT-loop
-μ-loop words e lo₀ hi₀ lo hi = hi - lo
+μ-loop words e low high lo₀ hi₀ lo hi = hi - lo
 
 loop-holds : tie.Need-loop-holds Inv-loop μ-loop
-loop-holds c = halving-none (c .before .args .words .now) (c .before .args .e)
+loop-holds c = c .before .pre .1
 
 sub-mid : tie.Need-sub-mid Inv-loop μ-loop
 sub-mid c = search needs
@@ -41,7 +42,7 @@ loop-again c =
     let lp = c .before .before .before .before .loop in
     let st = c .before .before .before .before .before .before in
     let key = c .before .key-of .ensures in
-    halving-up (st .args .words .now) (st .args .e) (st .pre) (lp .lo) (lp .hi) (lp .inv) (lp .lo + (lp .hi - lp .lo) / 2) (omega arith) (omega (arith, c .before .before .before .loop-test .taken)) (omega (arith, key, c .if1 .taken))
+    halving-up (st .args .words .now) (st .args .e) (st .pre .0) (lp .lo) (lp .hi) (lp .inv) (lp .lo + (lp .hi - lp .lo) / 2) (omega arith) (omega (arith, c .before .before .before .loop-test .taken)) (omega (arith, key, c .if1 .taken))
 
 loop-less-2 : tie.Need-loop-less-2 Inv-loop μ-loop
 loop-less-2 c = search needs
@@ -51,7 +52,7 @@ loop-again-2 c =
     let lp = c .before .before .before .before .loop in
     let st = c .before .before .before .before .before .before in
     let key = c .before .key-of .ensures in
-    halving-down (st .args .words .now) (st .args .e) (st .pre) (lp .lo) (lp .hi) (lp .inv) (lp .lo + (lp .hi - lp .lo) / 2) (omega arith) (omega (arith, c .before .before .before .loop-test .taken)) (omega (arith, key, c .if1 .left))
+    halving-down (st .args .words .now) (st .args .e) (st .pre .0) (lp .lo) (lp .hi) (lp .inv) (lp .lo + (lp .hi - lp .lo) / 2) (omega arith) (omega (arith, c .before .before .before .loop-test .taken)) (omega (arith, key, c .if1 .left))
 
 returns : tie.Need-returns Inv-loop μ-loop
 returns c =

@@ -17,6 +17,13 @@ pub record Bound (words : List ℕ) (e r : ℕ) : Type 0 where
   pub below : (i : ℕ) → i < r → keyOf (getD words i 0) < e
   pub above : (i : ℕ) → r ≤ i → i < length words → e ≤ keyOf (getD words i 0)
 
+-- that place is not before lo and not after hi
+pub record Halving (words : List ℕ) (e lo hi : ℕ) : Type 0 where
+  pub order : lo ≤ hi
+  pub within : hi ≤ length words
+  pub below : (i : ℕ) → i < lo → keyOf (getD words i 0) < e
+  pub above : (i : ℕ) → hi ≤ i → i < length words → e ≤ keyOf (getD words i 0)
+
 -- r is the polygon of the word at i where that stands before `end`, else 65,535
 pub record UserAt (words : List ℕ) (i end r : ℕ) : Type 0 where
   pub inside : i < end → r ≡ polyOf (getD words i 0)
