@@ -20,16 +20,14 @@ use Rattle.service.specs.Span.{Span, loadedBy, correctionsOf, correctedB
 use Rattle.service.specs.laws.Refusals.{accepted-line}
 use Rattle.service.specs.laws.Handlers.{of-across}
 use Rattle.service.specs.laws.Span.{held-told, corrected-loadable, fresh-held}
-use Rattle.users.specs.EdgeList.{Listed}
 use Rattle.users.specs.laws.Listing.{either-order}
-use Rattle.answer.specs.Answer as Answer
 
 -- ---- either order
 
 -- the list tells the same of two points in either order
 either-across : (m n : ℕ) (t : Tables) → acrossOf m n t ≡ acrossOf n m t
 unfolding acrossOf
-either-across m n t = ap (λ (e : Listed). Answer.across (e .users) (e .lowest) (e .second)) (either-order m n (t .polygons))
+either-across m n t = rw (either-order m n (t .polygons))
 
 or-either : (a b c : Bool) → (a || b || c) ≡ (b || a || c)
 or-either true true c = refl
