@@ -1,10 +1,11 @@
 -- Edges of rings of point numbers, and how often they are used: checks 08, 09 and 0A.
 use Prim.Native.Nat.{ℕ, _+_, _*_, _/_, _%_, min, max}
 use mathlib.Core.Bool.{Bool, _||_}
-use mathlib.Core.List.{List, [], _∷_, _++_, map}
+use mathlib.Core.List.{List, map}
 use mathlib.Core.Option.{Option}
 use lib.Dec.{eqb, leb, ltb}
 use Rattle.whole.specs.Lists.{steps, tally, keep, least}
+use Rattle.ring.specs.Polygon.{all}
 
 -- a step from a to b, as one number
 unfoldable pub way : ℕ → ℕ → ℕ
@@ -30,11 +31,6 @@ edgesOf ring = map (λ s. edge (s .0) (s .1)) (steps ring)
 unfoldable pub waysOf : List ℕ → List ℕ
 waysOf ring = map (λ s. way (s .0) (s .1)) (steps ring)
 
--- what all rings have
-unfoldable pub all : (List ℕ → List ℕ) → List (List ℕ) → List ℕ
-all f [] = []
-all f (ring ∷ rings) = f ring ++ all f rings
-
 -- how often a number stands in a list
 unfoldable pub count : ℕ → List ℕ → ℕ
 count n l = tally (eqb n) l
@@ -58,5 +54,5 @@ usedAlike rings =
     least (keep (λ e. leb 2 (count e ws) || leb 2 (count (way (larger e) (smaller e)) ws)) (all edgesOf rings))
 
 unfoldable pub edges-compute : Unit {0}
-unfolding way edge smaller larger edgesOf waysOf all count leastUsed usedOnce usedOften usedAlike
+unfolding way edge smaller larger edgesOf waysOf count leastUsed usedOnce usedOften usedAlike
 edges-compute = tt

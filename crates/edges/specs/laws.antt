@@ -2,5 +2,4 @@
 pub mod Ascending
 pub mod EdgeLaws
 pub mod Tallies
-pub mod Spans
 pub mod Agree

@@ -1,3 +1,5 @@
 pub mod Entries
+pub mod Polygon
 pub mod Position
+pub mod held
 pub mod laws

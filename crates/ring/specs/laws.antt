@@ -3,3 +3,5 @@ pub mod Agree
 pub mod Rings
 pub mod Repeated
 pub mod Examples
+pub mod Owners
+pub mod Turned

@@ -5,17 +5,18 @@ use mathlib.Core.List.{List, [], _∷_, _++_, map}
 use lib.Dec.{eqb}
 use lib.ListN.{length, getD, replicate}
 use Rattle.whole.specs.Lists.{keep, given, first}
-use Rattle.edges.specs.Edges.{edge, smaller, larger, edgesOf, all, count}
+use Rattle.ring.specs.Polygon.{Polygon, ringsOf, all, allRings}
+use Rattle.edges.specs.Edges.{edge, smaller, larger, edgesOf, count}
 use Rattle.edges.specs.Order.{ascending, insert}
 
--- "A polygon counts once for each time its rings use the edge": the polygons that use edge e, where the first ring is polygon p's
-unfoldable pub usersFrom : ℕ → ℕ → List (List ℕ) → List ℕ
-usersFrom e p [] = []
-usersFrom e p (ring ∷ rings) = replicate (count e (edgesOf ring)) p ++ usersFrom e (suc p) rings
+-- "A polygon counts once for each time its rings use the edge": the polygons that use edge e, of which the first has number n
+unfoldable pub usersFrom : ℕ → ℕ → List Polygon → List ℕ
+usersFrom e n [] = []
+usersFrom e n (p ∷ ps) = replicate (count e (all edgesOf (ringsOf p))) n ++ usersFrom e (suc n) ps
 
 -- the users of edge e, the lowest first
-unfoldable pub usersOf : ℕ → List (List ℕ) → List ℕ
-usersOf e rings = usersFrom e 0 rings
+unfoldable pub usersOf : ℕ → List Polygon → List ℕ
+usersOf e ps = usersFrom e 0 ps
 
 -- an edge of the list: "the number of users and the two lowest users"
 pub record Listed : Type 0 where
@@ -38,21 +39,21 @@ once [] = []
 once (x ∷ []) = x ∷ []
 once (x ∷ y ∷ l) = elim (eqb x y) [ true ↦ once (y ∷ l) | false ↦ x ∷ once (y ∷ l) ]
 
--- the edges of the rings "in ascending order", whatever the rings' findings
-unfoldable pub edgesOnce : List (List ℕ) → List ℕ
-edgesOnce rings = once (ascending (keep isEdge (all edgesOf rings)))
+-- the edges of the polygons "in ascending order", whatever their findings
+unfoldable pub edgesOnce : List Polygon → List ℕ
+edgesOnce ps = once (ascending (keep isEdge (all edgesOf (allRings ps))))
 
 -- "the list of edges in ascending order with the number of users and the two lowest users"
-unfoldable pub edgeList : List (List ℕ) → List Listed
-edgeList rings = map (λ e. listed e (usersOf e rings)) (edgesOnce rings)
+unfoldable pub edgeList : List Polygon → List Listed
+edgeList ps = map (λ e. listed e (usersOf e ps)) (edgesOnce ps)
 
 -- what a list tells of edge e; "Two points that share no edge get zero users."
 unfoldable pub lookedUp : ℕ → List Listed → Listed
 lookedUp e l = first (listed e []) (map (λ x. given (eqb e (x .number)) x) l)
 
 -- what the list tells of two points, "in either order"
-unfoldable pub across : ℕ → ℕ → List (List ℕ) → Listed
-across a b rings = lookedUp (edge a b) (edgeList rings)
+unfoldable pub across : ℕ → ℕ → List Polygon → Listed
+across a b ps = lookedUp (edge a b) (edgeList ps)
 
 unfoldable pub edge-list-computes : Unit {0}
 unfolding usersFrom usersOf listed isEdge once edgesOnce edgeList lookedUp across ascending insert

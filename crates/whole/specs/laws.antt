@@ -16,6 +16,7 @@ pub mod Same
 pub mod Search
 pub mod Size
 pub mod Solve
+pub mod Spans
 pub mod Stores
 pub mod Sum
 pub mod Tests

@@ -13,20 +13,24 @@ use lib.Dec.{eqb}
 use lib.ListN.{getD}
 use Rattle.whole.specs.Lists.{steps, tally, tab}
 use Rattle.whole.specs.laws.Reverse.{back, steps-reverse}
-use Rattle.edges.specs.Edges.{way, edge, smaller, larger, waysOf, all, count, usedAlike}
+use Rattle.whole.specs.held.Spans.{span}
+use Rattle.whole.specs.laws.Spans.{map-span, span-same}
+use Rattle.ring.specs.Polygon.{Polygon, ringsOf, all, allRings, turnedOver}
+use Rattle.ring.specs.held.Rings.{ringAt, polygonAt, ownerOf}
+use Rattle.ring.specs.laws.Owners.{owned as ring-owned, rings-at, rings-told}
+use Rattle.edges.specs.Edges.{way, edge, smaller, larger, waysOf, count, usedAlike}
 use Rattle.edges.specs.laws.EdgeLaws.{smaller-edge, larger-edge}
 use Rattle.edges.specs.held.Ascending.{In}
-use Rattle.shell.specs.held.Held.{ringAt}
 use Rattle.words.specs.held.Words.{keyOf, polyOf, dirOf}
-use Rattle.edges.specs.held.Table.{stepWord, span, ringWords, wordsTo, nextAt}
+use Rattle.edges.specs.held.Table.{stepWord, ringWords, wordsTo, wordsOf, nextAt}
 use Rattle.edges.specs.Order.{ascending}
-use Rattle.shell.specs.held.Kept.{Loaded, turn, turnedRings, headingOf, alikeIn}
+use Rattle.shell.specs.held.Kept.{Loaded, turn, turnedPolygons, headingOf, alikeIn}
 use Rattle.edges.specs.laws.Tallies.{one, one-yes, one-no, tally-nil, tally-cons, tally-map, tally-append, tally-reverse, tally-in}
 use Rattle.edges.specs.laws.Ascending.{tally-ascending, in-ascending}
 use Rattle.shell.specs.laws.Adequate.{Is, is-same, goes, uses, alike-is}
 use Rattle.whole.specs.Least.{Least}
-use Rattle.directions.specs.laws.Turned.{turned-rings, uses-turned}
-use Rattle.shell.specs.laws.Uses.{Use, step-use, words-use, use-key, use-poly, use-dir, ring-ways, ring-steps, ring-long, entry-small, map-span, span-same, all-append, pairAt}
+use Rattle.directions.specs.laws.Turned.{turned-polygons, uses-turned}
+use Rattle.shell.specs.laws.Uses.{Use, step-use, words-use, use-key, use-poly, use-dir, ring-ways, ring-steps, ring-long, entry-small, all-append, pairAt}
 use Rattle.shell.specs.laws.Pairs.{Pairs, empty, pair, ofEdge, tally-keys}
 use Rattle.shell.specs.laws.Across.{key-count}
 use Rattle.shell.specs.laws.Corner.{one-corner, node-at, owned, After, after}
@@ -73,9 +77,29 @@ round-down a b x y h = ap₂ way (larger-edge a b x y) (smaller-edge a b x y) �
     low : (a b : ℕ) → b < a → min a b ≡ b
     low a b h = omega arith
 
-module _ (es st : List ℕ) (n : ℕ) (l : Loaded es st n) (flags : List ℕ) (few : (q : ℕ) → getD flags q 0 ≤ 1) where
+-- a ring under its polygon's flag
+unfoldable turnRing : ℕ → List ℕ → List ℕ
+turnRing zero ring = ring
+turnRing (suc k) ring = reverse ring
+
+turn-each : (k : ℕ) (p : Polygon) → ringsOf (turn k p) ≡ map (turnRing k) (ringsOf p)
+unfolding turn turnRing ringsOf turnedOver
+turn-each zero p = sym (map-same (p .outer ∷ p .inner))
+  where
+    map-same : (l : List (List ℕ)) → map (λ r. r) l ≡ l
+    map-same [] = refl
+    map-same (r ∷ l) = ap (λ (m : List (List ℕ)). r ∷ m) (map-same l)
+turn-each (suc k) p = refl
+
+module _ (es st ft : List ℕ) (n : ℕ) (l : Loaded es st ft n) (flags : List ℕ) (few : (q : ℕ) → getD flags q 0 ≤ 1) where
+  abbrev of : ℕ → ℕ
+  of = ownerOf ft n
+
+  abbrev rings : ℕ
+  rings = getD ft n 0
+
   -- the way of a use, as loaded or turned
-  module _ (w : ℕ) (u : Use es st n w) where
+  module _ (w : ℕ) (u : Use es st ft n w) where
     abbrev a : ℕ
     a = getD es (u .at) 0
 
@@ -83,50 +107,50 @@ module _ (es st : List ℕ) (n : ℕ) (l : Loaded es st n) (flags : List ℕ) (f
     b = getD es (u .at + 1) 0
 
     small-a : a < 65536
-    small-a = omega (arith, entry-small es st n l (u .poly) (u .at) (u .below) (before (u .at) (getD st (u .poly + 1) 0) (u .to)))
+    small-a = omega (arith, entry-small es st ft n l (u .ring) (u .at) (u .below) (before (u .at) (getD st (u .ring + 1) 0) (u .to)))
       where
         before : (i b : ℕ) → i + 1 < b → i < b
         before i b h = omega arith
 
     small-b : b < 65536
-    small-b = omega (arith, entry-small es st n l (u .poly) (u .at + 1) (u .below) (u .to))
+    small-b = omega (arith, entry-small es st ft n l (u .ring) (u .at + 1) (u .below) (u .to))
 
-    heading-is : headingOf flags w ≡ (min 1 (a - b) + getD flags (u .poly) 0) % 2
-    heading-is = ap₂ (λ (d p : ℕ). (d + getD flags p 0) % 2) (use-dir es st n l w u) (use-poly es st n l w u)
+    heading-is : headingOf flags w ≡ (min 1 (a - b) + getD flags (of (u .ring)) 0) % 2
+    heading-is = ap₂ (λ (d p : ℕ). (d + getD flags p 0) % 2) (use-dir es st ft n l w u) (use-poly es st ft n l w u)
 
     heading : (x y f h : ℕ) → h ≡ (min 1 (x - y) + f) % 2 → (f ≡ 0 → y < x → h ≢ 0) × (f ≡ 0 → (y < x → ⊥) → h ≡ 0) × (f ≡ 1 → y < x → h ≡ 0) × (f ≡ 1 → (y < x → ⊥) → h ≢ 0)
     heading x y f h e = (λ z p q. omega arith, λ z p. omega arith, λ z p. omega arith, λ z p q. omega arith)
 
     abbrev flag : ℕ
-    flag = getD flags (u .poly) 0
+    flag = getD flags (of (u .ring)) 0
 
     way-kept : flag ≡ 0 → wayNow flags w ≡ way a b
     way-kept z =
         by-cases
         (decLt b a)
-        (λ lt. way-back flags w (heading a b flag (headingOf flags w) heading-is .0 z lt) ∙ (ap round (use-key es st n l w u) ∙ round-down a b small-a small-b lt))
-        (λ ge. way-on flags w (heading a b flag (headingOf flags w) heading-is .1 z ge) ∙ (use-key es st n l w u ∙ edge-up a b ge))
+        (λ lt. way-back flags w (heading a b flag (headingOf flags w) heading-is .0 z lt) ∙ (ap round (use-key es st ft n l w u) ∙ round-down a b small-a small-b lt))
+        (λ ge. way-on flags w (heading a b flag (headingOf flags w) heading-is .1 z ge) ∙ (use-key es st ft n l w u ∙ edge-up a b ge))
 
     way-turned : flag ≡ 1 → wayNow flags w ≡ way b a
     way-turned z =
         by-cases
         (decLt b a)
-        (λ lt. way-on flags w (heading a b flag (headingOf flags w) heading-is .2 z lt) ∙ (use-key es st n l w u ∙ edge-down a b lt))
-        (λ ge. way-back flags w (heading a b flag (headingOf flags w) heading-is .3 z ge) ∙ (ap round (use-key es st n l w u) ∙ round-up a b small-a small-b ge))
+        (λ lt. way-on flags w (heading a b flag (headingOf flags w) heading-is .2 z lt) ∙ (use-key es st ft n l w u ∙ edge-down a b lt))
+        (λ ge. way-back flags w (heading a b flag (headingOf flags w) heading-is .3 z ge) ∙ (ap round (use-key es st ft n l w u) ∙ round-up a b small-a small-b ge))
 
     -- an edge has two ends
     proper : smaller (keyOf w) < larger (keyOf w)
     proper =
-        subst (λ (k : ℕ). smaller k < larger k) (sym (use-key es st n l w u)) (subst (λ (x : ℕ). x < larger (edge a b)) (sym (smaller-edge a b small-a small-b)) (subst (λ (x : ℕ). min a b < x) (sym (larger-edge a b small-a small-b)) (spread a b differ)))
+        subst (λ (k : ℕ). smaller k < larger k) (sym (use-key es st ft n l w u)) (subst (λ (x : ℕ). x < larger (edge a b)) (sym (smaller-edge a b small-a small-b)) (subst (λ (x : ℕ). min a b < x) (sym (larger-edge a b small-a small-b)) (spread a b differ)))
       where
         spread : (a b : ℕ) → a ≢ b → min a b < max a b
         spread a b d = omega arith
 
         k : ℕ
-        k = nextAt (getD st (u .poly) 0) (getD st (u .poly + 1) 0) (u .at)
+        k = nextAt (getD st (u .ring) 0) (getD st (u .ring + 1) 0) (u .at)
 
-        t : After es st n l (u .poly) (u .at) k
-        t = after es st n l (u .poly) (u .at) (u .below) (u .from) (u .to)
+        t : After es st ft n l (u .ring) (u .at) k
+        t = after es st ft n l (u .ring) (u .at) (u .below) (u .from) (u .to)
 
         before : (i b : ℕ) → i + 1 < b → i < b
         before i b h = omega arith
@@ -139,10 +163,10 @@ module _ (es st : List ℕ) (n : ℕ) (l : Loaded es st n) (flags : List ℕ) (f
             go false e q = omega arith
 
         differ : a ≢ b
-        differ q = moved (getD st (u .poly) 0) (getD st (u .poly + 1) 0) (u .at) (ring-long es st n l (u .poly) (u .below)) (u .to) (u .from) (one-corner es st n l k (u .at) (node-at es st n l (u .poly) k (u .below) (t .from) (t .to)) (node-at es st n l (u .poly) (u .at) (u .below) (u .from) (u .to)) (t .point ∙ sym q) (owned es st n l (u .poly) k (u .below) (t .from) (before k (getD st (u .poly + 1) 0) (t .to)) ∙ sym (owned es st n l (u .poly) (u .at) (u .below) (u .from) (before (u .at) (getD st (u .poly + 1) 0) (u .to)))))
+        differ q = moved (getD st (u .ring) 0) (getD st (u .ring + 1) 0) (u .at) (ring-long es st ft n l (u .ring) (u .below)) (u .to) (u .from) (one-corner es st ft n l k (u .at) (node-at es st ft n l (u .ring) k (u .below) (t .from) (t .to)) (node-at es st ft n l (u .ring) (u .at) (u .below) (u .from) (u .to)) (t .point ∙ sym q) (ap of (owned es st ft n l (u .ring) k (u .below) (t .from) (before k (getD st (u .ring + 1) 0) (t .to)) ∙ sym (owned es st ft n l (u .ring) (u .at) (u .below) (u .from) (before (u .at) (getD st (u .ring + 1) 0) (u .to))))))
 
   -- the ways of ring p
-  module _ (p : ℕ) (h : p < n) (t : ℕ → Bool) where
+  module _ (p : ℕ) (h : p < rings) (t : ℕ → Bool) where
     abbrev from : ℕ
     from = getD st p 0
 
@@ -152,60 +176,79 @@ module _ (es st : List ℕ) (n : ℕ) (l : Loaded es st n) (flags : List ℕ) (f
     inner : (a b k : ℕ) → k < a + (b - a - 1) → a ≤ k → k + 1 < b
     inner a b k h g = omega arith
 
-    words-ways : tally (λ w. t (wayNow flags w)) (ringWords es st p) ≡ tally t (span (λ i. wayNow flags (stepWord es p (getD st p 0) (getD st (p + 1) 0) i)) from many)
-    words-ways = sym (tally-map t (wayNow flags) (ringWords es st p)) ∙ ap (tally t) (map-span (wayNow flags) (stepWord es p (getD st p 0) (getD st (p + 1) 0)) from many)
+    words-ways : tally (λ w. t (wayNow flags w)) (ringWords es st (of p) p) ≡ tally t (span (λ i. wayNow flags (stepWord es (of p) (getD st p 0) (getD st (p + 1) 0) i)) from many)
+    words-ways = sym (tally-map t (wayNow flags) (ringWords es st (of p) p)) ∙ ap (tally t) (map-span (wayNow flags) (stepWord es (of p) (getD st p 0) (getD st (p + 1) 0)) from many)
 
-    kept-ways : getD flags p 0 ≡ 0 → tally t (waysOf (ringAt es st p)) ≡ tally (λ w. t (wayNow flags w)) (ringWords es st p)
+    kept-ways : getD flags (of p) 0 ≡ 0 → tally t (waysOf (ringAt es st p)) ≡ tally (λ w. t (wayNow flags w)) (ringWords es st (of p) p)
     kept-ways z =
-        ap (tally t) (ring-ways es st n l p h)
-        ∙ ap (tally t) (span-same (λ i. way (getD es i 0) (getD es (i + 1) 0)) (λ i. wayNow flags (stepWord es p (getD st p 0) (getD st (p + 1) 0) i)) from many (λ k f g. sym (way-kept (stepWord es p (getD st p 0) (getD st (p + 1) 0) k) (step-use es st n l p k h f (inner (getD st p 0) (getD st (p + 1) 0) k g f)) z)))
+        ap (tally t) (ring-ways es st ft n l p h)
+        ∙ ap (tally t) (span-same (λ i. way (getD es i 0) (getD es (i + 1) 0)) (λ i. wayNow flags (stepWord es (of p) (getD st p 0) (getD st (p + 1) 0) i)) from many (λ k f g. sym (way-kept (stepWord es (of p) (getD st p 0) (getD st (p + 1) 0) k) (step-use es st ft n l p k h f (inner (getD st p 0) (getD st (p + 1) 0) k g f)) z)))
         ∙ sym words-ways
 
-    turned-ways : getD flags p 0 ≡ 1 → tally t (waysOf (reverse (ringAt es st p))) ≡ tally (λ w. t (wayNow flags w)) (ringWords es st p)
+    turned-ways : getD flags (of p) 0 ≡ 1 → tally t (waysOf (reverse (ringAt es st p))) ≡ tally (λ w. t (wayNow flags w)) (ringWords es st (of p) p)
     unfolding waysOf
     turned-ways z =
         tally-map t (λ s. way (s .0) (s .1)) (steps (reverse (ringAt es st p)))
         ∙ ap (tally (λ s. t (way (s .0) (s .1)))) (steps-reverse (ringAt es st p))
         ∙ tally-reverse (λ s. t (way (s .0) (s .1))) (map back (steps (ringAt es st p)))
         ∙ tally-map (λ s. t (way (s .0) (s .1))) back (steps (ringAt es st p))
-        ∙ ap (tally (λ s. t (way (s .1) (s .0)))) (ring-steps es st n l p h)
+        ∙ ap (tally (λ s. t (way (s .1) (s .0)))) (ring-steps es st ft n l p h)
         ∙ sym (tally-map t (λ s. way (s .1) (s .0)) (span (pairAt es) from many))
         ∙ ap (tally t) (map-span (λ s. way (s .1) (s .0)) (pairAt es) from many)
-        ∙ ap (tally t) (span-same (λ i. way (getD es (i + 1) 0) (getD es i 0)) (λ i. wayNow flags (stepWord es p (getD st p 0) (getD st (p + 1) 0) i)) from many (λ k f g. sym (way-turned (stepWord es p (getD st p 0) (getD st (p + 1) 0) k) (step-use es st n l p k h f (inner (getD st p 0) (getD st (p + 1) 0) k g f)) z)))
+        ∙ ap (tally t) (span-same (λ i. way (getD es (i + 1) 0) (getD es i 0)) (λ i. wayNow flags (stepWord es (of p) (getD st p 0) (getD st (p + 1) 0) i)) from many (λ k f g. sym (way-turned (stepWord es (of p) (getD st p 0) (getD st (p + 1) 0) k) (step-use es st ft n l p k h f (inner (getD st p 0) (getD st (p + 1) 0) k g f)) z)))
         ∙ sym words-ways
 
-    ring-goes : tally t (waysOf (turn (getD flags p 0) (ringAt es st p))) ≡ tally (λ w. t (wayNow flags w)) (ringWords es st p)
-    unfolding turn
-    ring-goes = by-cases (ℕ-discrete (getD flags p 0) 0) (λ z. ap (λ (k : ℕ). tally t (waysOf (turn k (ringAt es st p)))) z ∙ kept-ways z) (λ d. ap (λ (k : ℕ). tally t (waysOf (turn k (ringAt es st p)))) (set d) ∙ turned-ways (set d))
+    ring-goes : tally t (waysOf (turnRing (getD flags (of p) 0) (ringAt es st p))) ≡ tally (λ w. t (wayNow flags w)) (ringWords es st (of p) p)
+    unfolding turnRing
+    ring-goes = by-cases (ℕ-discrete (getD flags (of p) 0) 0) (λ z. ap (λ (k : ℕ). tally t (waysOf (turnRing k (ringAt es st p)))) z ∙ kept-ways z) (λ d. ap (λ (k : ℕ). tally t (waysOf (turnRing k (ringAt es st p)))) (set d) ∙ turned-ways (set d))
       where
-        set : getD flags p 0 ≢ 0 → getD flags p 0 ≡ 1
-        set d = omega (arith, few p)
+        set : getD flags (of p) 0 ≢ 0 → getD flags (of p) 0 ≡ 1
+        set d = omega (arith, few (of p))
 
-  all-goes : (m : ℕ) → m ≤ n → (t : ℕ → Bool) → tally t (all waysOf (turnedRings es st m flags)) ≡ tally (λ w. t (wayNow flags w)) (wordsTo es st m)
-  unfolding turnedRings tab wordsTo all
+  -- the ways of all rings, each turned as its polygon is
+  abbrev ringNow : ℕ → List ℕ
+  ringNow r = turnRing (getD flags (of r) 0) (ringAt es st r)
+
+  all-goes : (m : ℕ) → m ≤ rings → (t : ℕ → Bool) → tally t (all waysOf (tab ringNow m)) ≡ tally (λ w. t (wayNow flags w)) (wordsTo es st of m)
+  unfolding tab wordsTo all
   all-goes zero h t = tally-nil t ∙ sym (tally-nil (λ w. t (wayNow flags w)))
   all-goes (suc m) h t =
-      ap (tally t) (all-append waysOf (turnedRings es st m flags) (turn (getD flags m 0) (ringAt es st m)))
-      ∙ tally-append t (all waysOf (turnedRings es st m flags)) (waysOf (turn (getD flags m 0) (ringAt es st m)))
+      ap (tally t) (all-append waysOf (tab ringNow m) (ringNow m))
+      ∙ tally-append t (all waysOf (tab ringNow m)) (waysOf (ringNow m))
       ∙ ap₂ (λ (x y : ℕ). x + y) (all-goes m (omega arith) t) (ring-goes m h t)
-      ∙ sym (tally-append (λ w. t (wayNow flags w)) (wordsTo es st m) (ringWords es st m))
+      ∙ sym (tally-append (λ w. t (wayNow flags w)) (wordsTo es st of m) (ringWords es st (of m) m))
 
   abbrev table : List ℕ
-  table = ascending (wordsTo es st n)
+  table = ascending (wordsOf es st ft n)
 
-  abbrev now : List (List ℕ)
-  now = turnedRings es st n flags
+  abbrev now : List Polygon
+  now = turnedPolygons es st ft n flags
+
+  -- the rings of a polygon under its flag
+  turned-rings : (p : ℕ) → p < n → ringsOf (turn (getD flags p 0) (polygonAt es st ft p)) ≡ span ringNow (getD ft p 0) (getD ft (p + 1) 0 - getD ft p 0)
+  turned-rings p h =
+      turn-each (getD flags p 0) (polygonAt es st ft p)
+      ∙ (ap (map (turnRing (getD flags p 0))) (rings-at es st ft n (l .layout) p h)
+      ∙ (map-span (turnRing (getD flags p 0)) (ringAt es st) (getD ft p 0) (getD ft (p + 1) 0 - getD ft p 0)
+      ∙ span-same (λ r. turnRing (getD flags p 0) (ringAt es st r)) ringNow (getD ft p 0) (getD ft (p + 1) 0 - getD ft p 0) (λ r a b. ap (λ (q : ℕ). turnRing (getD flags q 0) (ringAt es st r)) (sym (ring-owned es st ft n (l .layout) p r h a (within (getD ft p 0) (getD ft (p + 1) 0) r b a))))))
+    where
+      within : (a b k : ℕ) → k < a + (b - a) → a ≤ k → k < b
+      within a b k h g = omega arith
+
+  rings-now : allRings now ≡ tab ringNow rings
+  unfolding turnedPolygons
+  rings-now = rings-told es st ft n (l .layout) (λ p. turn (getD flags p 0) (polygonAt es st ft p)) ringNow turned-rings
 
   -- a way is gone by as many words as it is gone by the rings
-  goes-is : (x : ℕ) → goes now x ≡ tally (λ w. eqb x (wayNow flags w)) table
+  goes-is : (x : ℕ) → goes (allRings now) x ≡ tally (λ w. eqb x (wayNow flags w)) table
   unfolding goes count
-  goes-is x = all-goes n (le-refl n) (eqb x) ∙ sym (tally-ascending (λ w. eqb x (wayNow flags w)) (wordsTo es st n))
+  goes-is x = ap (λ (rs : List (List ℕ)). tally (eqb x) (all waysOf rs)) rings-now ∙ (all-goes rings (le-refl rings) (eqb x) ∙ sym (tally-ascending (λ w. eqb x (wayNow flags w)) (wordsOf es st ft n)))
 
-  uses-is : (e : ℕ) → uses now e ≡ tally (ofEdge e) table
-  uses-is e = uses-turned (turned-rings es st n flags) e ∙ (sym (key-count es st n l e) ∙ tally-keys e table)
+  uses-is : (e : ℕ) → uses (allRings now) e ≡ tally (ofEdge e) table
+  uses-is e = uses-turned (turned-polygons es st ft n flags) e ∙ (sym (key-count es st ft n l e) ∙ tally-keys e table)
 
   all-proper : (w : ℕ) → In w table → smaller (keyOf w) < larger (keyOf w)
-  all-proper w i = proper w (words-use es st n l n w (le-refl n) (in-ascending (wordsTo es st n) w i))
+  all-proper w i = proper w (words-use es st ft n l rings w (le-refl rings) (in-ascending (wordsOf es st ft n) w i))
 
 -- ---- 0A, over words in pairs
 abbrev Proper : ℕ → Type 0
@@ -368,6 +411,6 @@ module _ (flags : List ℕ) where
       go false e ih = is-as ih (later-alike w v l q above pr) (alike-later w v l q above pr (eqb-false (headingOf flags w) (headingOf flags v) e))
 
 -- where the words stand in pairs, the scan finds the least edge used twice in one direction
-pub alike-found : (es st : List ℕ) (n : ℕ) (l : Loaded es st n) (flags : List ℕ) → ((q : ℕ) → getD flags q 0 ≤ 1) → Pairs (ascending (wordsTo es st n)) → usedAlike (turnedRings es st n flags) ≡ alikeIn flags (ascending (wordsTo es st n))
-alike-found es st n l flags few p =
-    is-same (alike-is (turnedRings es st n flags)) (alike-in flags p (all-proper es st n l flags few)) (λ e a. (subst (λ (k : ℕ). 1 ≤ k) (uses-is es st n l flags few e) (a .0), ⊎-elim (λ (h : 2 ≤ goes (turnedRings es st n flags) e). inl (subst (λ (k : ℕ). 2 ≤ k) (goes-is es st n l flags few e) h)) (λ (h : 2 ≤ goes (turnedRings es st n flags) (round e)). inr (subst (λ (k : ℕ). 2 ≤ k) (goes-is es st n l flags few (round e)) h)) (a .1))) (λ e a. (subst (λ (k : ℕ). 1 ≤ k) (sym (uses-is es st n l flags few e)) (a .0), ⊎-elim (λ (h : 2 ≤ tally (λ w. eqb e (wayNow flags w)) (ascending (wordsTo es st n))). inl (subst (λ (k : ℕ). 2 ≤ k) (sym (goes-is es st n l flags few e)) h)) (λ (h : 2 ≤ tally (λ w. eqb (round e) (wayNow flags w)) (ascending (wordsTo es st n))). inr (subst (λ (k : ℕ). 2 ≤ k) (sym (goes-is es st n l flags few (round e))) h)) (a .1)))
+pub alike-found : (es st ft : List ℕ) (n : ℕ) (l : Loaded es st ft n) (flags : List ℕ) → ((q : ℕ) → getD flags q 0 ≤ 1) → Pairs (ascending (wordsOf es st ft n)) → usedAlike (allRings (turnedPolygons es st ft n flags)) ≡ alikeIn flags (ascending (wordsOf es st ft n))
+alike-found es st ft n l flags few p =
+    is-same (alike-is (allRings (turnedPolygons es st ft n flags))) (alike-in flags p (all-proper es st ft n l flags few)) (λ e a. (subst (λ (k : ℕ). 1 ≤ k) (uses-is es st ft n l flags few e) (a .0), ⊎-elim (λ (h : 2 ≤ goes (allRings (turnedPolygons es st ft n flags)) e). inl (subst (λ (k : ℕ). 2 ≤ k) (goes-is es st ft n l flags few e) h)) (λ (h : 2 ≤ goes (allRings (turnedPolygons es st ft n flags)) (round e)). inr (subst (λ (k : ℕ). 2 ≤ k) (goes-is es st ft n l flags few (round e)) h)) (a .1))) (λ e a. (subst (λ (k : ℕ). 1 ≤ k) (sym (uses-is es st ft n l flags few e)) (a .0), ⊎-elim (λ (h : 2 ≤ tally (λ w. eqb e (wayNow flags w)) (ascending (wordsOf es st ft n))). inl (subst (λ (k : ℕ). 2 ≤ k) (sym (goes-is es st ft n l flags few e)) h)) (λ (h : 2 ≤ tally (λ w. eqb (round e) (wayNow flags w)) (ascending (wordsOf es st ft n))). inr (subst (λ (k : ℕ). 2 ≤ k) (sym (goes-is es st ft n l flags few (round e))) h)) (a .1)))

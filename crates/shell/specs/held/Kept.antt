@@ -3,7 +3,7 @@
 use Prim.Native.Nat.{ℕ, zero, suc, _+_, _-_, _%_, _≤_, _<_}
 use mathlib.Core.Path.{_≡_}
 use mathlib.Core.Bool.{Bool, true, false, cond}
-use mathlib.Core.List.{List, [], _∷_, reverse}
+use mathlib.Core.List.{List, [], _∷_}
 use mathlib.Core.Option.{Option, none, some, Option·map}
 use lib.Dec.{eqb, ltb}
 use lib.ListN.{length, getD, take}
@@ -12,9 +12,11 @@ use Rattle.shell.specs.declared.Shape.{Shape}
 use Rattle.shell.specs.declared.Shape.the-variants.{Whole, Few, Once, Often, Alike, Apart, Unlinked}
 use Rattle.edges.specs.Edges.{usedOnce, usedOften}
 use Rattle.shell.specs.Shell.{byEnds, notReached, notLinked}
-use Rattle.shell.specs.held.Held.{ringAt, rings, Starts, Entries}
+use Rattle.ring.specs.Polygon.{Polygon, allRings, turnedOver}
+use Rattle.ring.specs.held.Rings.{ringAt, polygonAt, polygons, Layout}
+use Rattle.shell.specs.held.Held.{Entries}
 use Rattle.words.specs.held.Words.{keyOf, polyOf, dirOf}
-use Rattle.edges.specs.held.Table.{wordsTo, tableOf}
+use Rattle.edges.specs.held.Table.{wordsOf, tableOf}
 use Rattle.edges.specs.Order.{ascending}
 
 -- a ring that passes checks 01, 02 and 03
@@ -23,27 +25,29 @@ pub record Sound (ring : List ℕ) : Type 0 where
   pub closed : getD ring (length ring - 1) 0 ≡ getD ring 0 0
   pub once : (i j : ℕ) → i < j → j + 1 < length ring → getD ring i 0 ≡ getD ring j 0 → ⊥
 
--- arrays that hold n rings, each of which passes checks 01 to 03
-pub record Loaded (entries starts : List ℕ) (n : ℕ) : Type 0 where
+-- arrays that hold n polygons, whose rings each pass checks 01 to 03, and of which no two rings of one list the same number: such rings
+-- share a point wherever it stands, which 0E reports
+pub record Loaded (entries starts firsts : List ℕ) (n : ℕ) : Type 0 where
   pub points : ℕ
-  pub held : Entries entries (getD starts n 0) points
-  pub begin : Starts starts n
-  pub sound : (p : ℕ) → p < n → Sound (ringAt entries starts p)
+  pub layout : Layout entries starts firsts n
+  pub held : Entries entries (getD starts (getD firsts n 0) 0) points
+  pub sound : (r : ℕ) → r < getD firsts n 0 → Sound (ringAt entries starts r)
+  pub apart : (p r s i j : ℕ) → p < n → getD firsts p 0 ≤ r → r < s → s < getD firsts (p + 1) 0 → i < length (ringAt entries starts r) → j < length (ringAt entries starts s) → getD (ringAt entries starts r) i 0 ≡ getD (ringAt entries starts s) j 0 → ⊥
 
 -- the shape, had check 0A not been asked
-unfoldable pub fixedShape : List (List ℕ) → Shape
-fixedShape rs =
+unfoldable pub fixedShape : List Polygon → Shape
+fixedShape ps =
     first Whole
-    (given (ltb (length rs) 4) (Few (length rs)) ∷
-    Option·map (byEnds Once) (usedOnce rs) ∷
-    Option·map (byEnds Often) (usedOften rs) ∷
-    Option·map Apart (notReached rs) ∷
-    Option·map Unlinked (notLinked rs) ∷
+    (given (ltb (length ps) 4) (Few (length ps)) ∷
+    Option·map (byEnds Once) (usedOnce (allRings ps)) ∷
+    Option·map (byEnds Often) (usedOften (allRings ps)) ∷
+    Option·map Apart (notReached ps) ∷
+    Option·map Unlinked (notLinked ps) ∷
     [])
 
 -- checks 0B and 0C alone
-unfoldable pub hanging : List (List ℕ) → Shape
-hanging rs = first Whole (Option·map Apart (notReached rs) ∷ Option·map Unlinked (notLinked rs) ∷ [])
+unfoldable pub hanging : List Polygon → Shape
+hanging ps = first Whole (Option·map Apart (notReached ps) ∷ Option·map Unlinked (notLinked ps) ∷ [])
 
 -- checks 07, 08 and 09 come before 0A, and 0B and 0C after it
 unfoldable pub early : Shape → Bool
@@ -73,41 +77,41 @@ alikeIn turned [] = none
 alikeIn turned (w ∷ []) = none
 alikeIn turned (w ∷ v ∷ l) = elim (eqb (headingOf turned w) (headingOf turned v)) [ true ↦ some (keyOf w) | false ↦ alikeIn turned l ]
 
--- the words of loaded rings, in order
-pub record Table (entries starts : List ℕ) (n : ℕ) (words : List ℕ) : Type 0 where
-  pub loaded : Loaded entries starts n
-  pub words-are : words ≡ ascending (wordsTo entries starts n)
+-- the words of loaded polygons, in order
+pub record Table (entries starts firsts : List ℕ) (n : ℕ) (words : List ℕ) : Type 0 where
+  pub loaded : Loaded entries starts firsts n
+  pub words-are : words ≡ ascending (wordsOf entries starts firsts n)
 
--- what end of load leaves: the table, the number of its words, and the verdict that turns do not change; where some ring is not sound
+-- what end of load leaves: the table, the number of its words, and the verdict that turns do not change; where some polygon is not sound
 -- there is none to tell, and `Few 0` stands in for it
-pub record Built (entries starts : List ℕ) (n : ℕ) (room table : List ℕ) (count : ℕ) (sound : Bool) (fixed : Shape) : Type 0 where
-  pub table-is : table ≡ tableOf entries starts n room
-  pub count-is : count ≡ length (wordsTo entries starts n)
-  pub fixed-is : fixed ≡ cond sound (fixedShape (rings entries starts n)) (Few 0)
+pub record Built (entries starts firsts : List ℕ) (n : ℕ) (room table : List ℕ) (count : ℕ) (sound : Bool) (fixed : Shape) : Type 0 where
+  pub table-is : table ≡ tableOf entries starts firsts n room
+  pub count-is : count ≡ length (wordsOf entries starts firsts n)
+  pub fixed-is : fixed ≡ cond sound (fixedShape (polygons entries starts firsts n)) (Few 0)
 
--- a ring under its flag
-unfoldable pub turn : ℕ → List ℕ → List ℕ
-turn zero ring = ring
-turn (suc k) ring = reverse ring
+-- a polygon under its flag
+unfoldable pub turn : ℕ → Polygon → Polygon
+turn zero p = p
+turn (suc k) p = turnedOver p
 
--- the rings that were loaded, each under its flag
-unfoldable pub turnedRings : List ℕ → List ℕ → ℕ → List ℕ → List (List ℕ)
-turnedRings entries starts n turned = tab (λ p. turn (getD turned p 0) (ringAt entries starts p)) n
+-- the polygons that were loaded, each under its flag
+unfoldable pub turnedPolygons : List ℕ → List ℕ → List ℕ → ℕ → List ℕ → List Polygon
+turnedPolygons entries starts firsts n turned = tab (λ p. turn (getD turned p 0) (polygonAt entries starts firsts p)) n
 
--- the table, its number of words and the flags belong to the present rings rs, whatever the rings' findings
-pub record Listed (rs : List (List ℕ)) (table : List ℕ) (count : ℕ) (turned : List ℕ) : Type 0 where
+-- the table, its number of words and the flags belong to the present polygons ps, whatever their findings
+pub record Listed (ps : List Polygon) (table : List ℕ) (count : ℕ) (turned : List ℕ) : Type 0 where
   pub entries : List ℕ
   pub starts : List ℕ
-  pub polygons : ℕ
-  pub size : length entries ≡ 1024
-  pub begin : Starts starts polygons
+  pub firsts : List ℕ
+  pub number : ℕ
+  pub layout : Layout entries starts firsts number
   pub flags : (p : ℕ) → getD turned p 0 ≤ 1
-  pub present : rs ≡ turnedRings entries starts polygons turned
-  pub words : take count table ≡ ascending (wordsTo entries starts polygons)
+  pub present : ps ≡ turnedPolygons entries starts firsts number turned
+  pub words : take count table ≡ ascending (wordsOf entries starts firsts number)
   pub room : count ≤ length table
 
--- and so does the verdict, where each ring is sound
-pub record Edged (rs : List (List ℕ)) (table : List ℕ) (count : ℕ) (turned : List ℕ) (fixed : Shape) : Type 0 where
-  pub listed : Listed rs table count turned
-  pub loaded : Loaded (listed .entries) (listed .starts) (listed .polygons)
-  pub fixed-is : fixed ≡ fixedShape (rings (listed .entries) (listed .starts) (listed .polygons))
+-- and so does the verdict, where each polygon is sound
+pub record Edged (ps : List Polygon) (table : List ℕ) (count : ℕ) (turned : List ℕ) (fixed : Shape) : Type 0 where
+  pub listed : Listed ps table count turned
+  pub loaded : Loaded (listed .entries) (listed .starts) (listed .firsts) (listed .number)
+  pub fixed-is : fixed ≡ fixedShape (polygons (listed .entries) (listed .starts) (listed .firsts) (listed .number))

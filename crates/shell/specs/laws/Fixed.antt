@@ -9,6 +9,7 @@ use lib.ListN.{length}
 use Rattle.whole.specs.Lists.{given, first}
 use Rattle.shell.specs.declared.Shape.{Shape}
 use Rattle.shell.specs.declared.Shape.the-variants.{Whole, Few, Once, Often, Apart, Unlinked}
+use Rattle.ring.specs.Polygon.{Polygon, allRings}
 use Rattle.edges.specs.Edges.{usedOnce, usedOften}
 use Rattle.shell.specs.Shell.{byEnds, notReached, notLinked}
 use Rattle.shell.specs.held.Kept.{fixedShape}
@@ -17,6 +18,6 @@ use Rattle.shell.specs.held.Kept.{fixedShape}
 unfoldable pub fixedBy : Bool → ℕ → Option ℕ → Option ℕ → Option ℕ → Option ℕ → Shape
 fixedBy b n o p q r = first Whole (given b (Few n) ∷ Option·map (byEnds Once) o ∷ Option·map (byEnds Often) p ∷ Option·map Apart q ∷ Option·map Unlinked r ∷ [])
 
-pub fixed-by : (rs : List (List ℕ)) → fixedShape rs ≡ fixedBy (ltb (length rs) 4) (length rs) (usedOnce rs) (usedOften rs) (notReached rs) (notLinked rs)
+pub fixed-by : (ps : List Polygon) → fixedShape ps ≡ fixedBy (ltb (length ps) 4) (length ps) (usedOnce (allRings ps)) (usedOften (allRings ps)) (notReached ps) (notLinked ps)
 unfolding fixedShape fixedBy
-fixed-by rs = refl
+fixed-by ps = refl

@@ -12,15 +12,17 @@ use lib.Dec.{eqb}
 use lib.ListN.{length, getD, take, drop, length-take, length-append}
 use lib.Seq.{drop-cons}
 use Rattle.whole.specs.Lists.{steps, stepsFrom, tab}
-use Rattle.edges.specs.Edges.{edge, way, edgesOf, waysOf, all}
+use Rattle.whole.specs.held.Spans.{span}
+use Rattle.whole.specs.laws.Spans.{length-span, map-span, span-same}
+use Rattle.ring.specs.Polygon.{all, allRings}
+use Rattle.ring.specs.held.Rings.{ringAt, polygons, ownerOf}
+use Rattle.ring.specs.laws.Owners.{owner-few, rings-all}
+use Rattle.edges.specs.Edges.{edge, way, edgesOf, waysOf}
 use Rattle.edges.specs.held.Ascending.{In}
 use Rattle.edges.specs.laws.Tallies.{in-left, in-right, in-either}
-use Rattle.shell.specs.held.Held.{ringAt, rings, Starts}
 use Rattle.words.specs.held.Words.{keyOf, polyOf, stepOf, nextOf, dirOf}
-use Rattle.edges.specs.held.Table.{wordOf, stepWord, nextAt, span, ringWords, wordsTo}
+use Rattle.edges.specs.held.Table.{wordOf, stepWord, nextAt, ringWords, wordsTo, wordsOf}
 use Rattle.shell.specs.held.Kept.{Loaded}
-use Rattle.edges.specs.laws.Spans.{length-span}
-use Rattle.edges.specs.held.Steps.{Rising}
 
 -- ---- the fields of a word
 module _ (e p s t d : ℕ) (hp : p < 256) (hs : s < 1024) (ht : t < 1024) (hd : d < 2) where
@@ -40,21 +42,9 @@ module _ (e p s t d : ℕ) (hp : p < 256) (hs : s < 1024) (ht : t < 1024) (hd : 
   word-dir = omega arith
 
 -- ---- lists of numbers that follow one another
-module _ {A B : Type 0} where
-  pub map-span : (g : A → B) (f : ℕ → A) (i n : ℕ) → map g (span f i n) ≡ span (λ k. g (f k)) i n
-  unfolding span
-  map-span g f i zero = refl
-  map-span g f i (suc n) = ap (λ (l : List B). g (f i) ∷ l) (map-span g f (i + 1) n)
-
-  pub map-append : (g : A → B) (a b : List A) → map g (a ++ b) ≡ map g a ++ map g b
-  map-append g [] b = refl
-  map-append g (x ∷ a) b = ap (λ (l : List B). g x ∷ l) (map-append g a b)
-
-module _ {A : Type 0} where
-  pub span-same : (f g : ℕ → A) (i n : ℕ) → ((k : ℕ) → i ≤ k → k < i + n → f k ≡ g k) → span f i n ≡ span g i n
-  unfolding span
-  span-same f g i zero h = refl
-  span-same f g i (suc n) h = ap₂ (λ (x : A) (l : List A). x ∷ l) (h i (le-refl i) (omega arith)) (span-same f g (i + 1) n (λ k a b. h k (omega arith) (omega arith)))
+pub map-append : {A B : Type 0} (g : A → B) (a b : List A) → map g (a ++ b) ≡ map g a ++ map g b
+map-append g [] b = refl
+map-append {A} {B} g (x ∷ a) b = ap (λ (l : List B). g x ∷ l) (map-append g a b)
 
 pub in-span : (f : ℕ → ℕ) (x i n : ℕ) → In x (span f i n) → (k : ℕ) × (i ≤ k) × (k < i + n) × (x ≡ f k)
 unfolding span
@@ -92,23 +82,14 @@ unfolding steps
 steps-part es n i h = ap (λ (l : List ℕ). steps (take (suc n) l)) (drop-cons es i 0 (omega arith)) ∙ steps-from es n i h
 
 -- ---- the rings of loaded arrays
-pub rising : (es st : List ℕ) (n : ℕ) → length es ≡ 1024 → Starts st n → Rising es st n
-rising es st n size b = record {
-  size = size;
-  many = b .size;
-  polys = b .few;
-  rises = λ p h. b .ordered p (p + 1) (omega arith) (omega arith);
-  within = λ p h. omega (arith, b .ordered (p + 1) n (omega arith) (le-refl n), b .inside);
-}
-
--- the word w stands for the step at `at` of polygon `poly`
-pub record Use (es st : List ℕ) (n w : ℕ) : Type 0 where
-  pub poly : ℕ
+-- the word w stands for the step at `at` of ring `ring`
+pub record Use (es st ft : List ℕ) (n w : ℕ) : Type 0 where
+  pub ring : ℕ
   pub at : ℕ
-  pub below : poly < n
-  pub from : getD st poly 0 ≤ at
-  pub to : at + 1 < getD st (poly + 1) 0
-  pub is : w ≡ stepWord es poly (getD st poly 0) (getD st (poly + 1) 0) at
+  pub below : ring < getD ft n 0
+  pub from : getD st ring 0 ≤ at
+  pub to : at + 1 < getD st (ring + 1) 0
+  pub is : w ≡ stepWord es (ownerOf ft n ring) (getD st ring 0) (getD st (ring + 1) 0) at
 
 pub next-below : (from to i : ℕ) → from < to → i + 1 < to → to ≤ 1024 → nextAt from to i < 1024
 next-below from to i a b c = go (eqb (i + 2) to)
@@ -117,150 +98,159 @@ next-below from to i a b c = go (eqb (i + 2) to)
     go true = omega arith
     go false = omega arith
 
-module _ (es st : List ℕ) (n : ℕ) (l : Loaded es st n) where
-  up : Rising es st n
-  up = rising es st n (l .held .size) (l .begin)
+module _ (es st ft : List ℕ) (n : ℕ) (l : Loaded es st ft n) where
+  abbrev many : ℕ
+  many = getD ft n 0
+
+  abbrev of : ℕ → ℕ
+  of = ownerOf ft n
 
   -- ring p stands in the entries, and is long enough
-  pub ring-long : (p : ℕ) → p < n → getD st p 0 + 4 ≤ getD st (p + 1) 0
+  pub ring-long : (p : ℕ) → p < many → getD st p 0 + 4 ≤ getD st (p + 1) 0
   ring-long p h = wide (getD st p 0) (getD st (p + 1) 0) (rw (length-take (getD st (p + 1) 0 - getD st p 0) (drop (getD st p 0) es)) at (l .sound p h .long))
     where
       wide : (a b : ℕ) → 4 ≤ min (b - a) (length (drop a es)) → a + 4 ≤ b
       wide a b h = omega arith
 
-  pub ring-within : (p : ℕ) → p < n → getD st (p + 1) 0 ≤ 1024
-  ring-within p h = up .within p h
+  pub used-within : (r : ℕ) → r < many → getD st (r + 1) 0 ≤ getD st many 0
+  used-within r h = l .layout .ordered (r + 1) many (omega arith) (le-refl many)
+
+  pub ring-within : (p : ℕ) → p < many → getD st (p + 1) 0 ≤ 1024
+  ring-within p h = omega (arith, used-within p h, l .layout .inside)
 
   pub polys-few : n ≤ 256
-  polys-few = up .polys
+  polys-few = l .layout .few
 
-  pub used-within : (p : ℕ) → p < n → getD st (p + 1) 0 ≤ getD st n 0
-  used-within p h = l .begin .ordered (p + 1) n (omega arith) (le-refl n)
+  pub poly-few : (r : ℕ) → r < many → of r < 256
+  poly-few r h = owner-few es st ft n (l .layout) r h
 
   -- the entries of a ring are few
-  pub entry-small : (p i : ℕ) → p < n → i < getD st (p + 1) 0 → getD es i 0 < 512
+  pub entry-small : (p i : ℕ) → p < many → i < getD st (p + 1) 0 → getD es i 0 < 512
   entry-small p i h k = omega (arith, l .held .below i (omega (arith, used-within p h)), l .held .few)
 
-  ring-part : (p : ℕ) → p < n → ringAt es st p ≡ take (suc (getD st (p + 1) 0 - getD st p 0 - 1)) (drop (getD st p 0) es)
+  ring-part : (p : ℕ) → p < many → ringAt es st p ≡ take (suc (getD st (p + 1) 0 - getD st p 0 - 1)) (drop (getD st p 0) es)
   ring-part p h = ap (λ (k : ℕ). take k (drop (getD st p 0) es)) (some (getD st p 0) (getD st (p + 1) 0) (ring-long p h))
     where
       some : (a b : ℕ) → a + 4 ≤ b → b - a ≡ suc (b - a - 1)
       some a b h = omega arith
 
-  pub ring-steps : (p : ℕ) → p < n → steps (ringAt es st p) ≡ span (pairAt es) (getD st p 0) (getD st (p + 1) 0 - getD st p 0 - 1)
+  pub ring-steps : (p : ℕ) → p < many → steps (ringAt es st p) ≡ span (pairAt es) (getD st p 0) (getD st (p + 1) 0 - getD st p 0 - 1)
   ring-steps p h = ap steps (ring-part p h) ∙ steps-part es (getD st (p + 1) 0 - getD st p 0 - 1) (getD st p 0) (short (getD st p 0) (getD st (p + 1) 0) (ring-long p h) (ring-within p h))
     where
       short : (a b : ℕ) → a + 4 ≤ b → b ≤ 1024 → a + (b - a - 1) < length es
       short a b h k = omega (arith, l .held .size)
 
   -- the fields of a use
-  module _ (w : ℕ) (u : Use es st n w) where
+  module _ (w : ℕ) (u : Use es st ft n w) where
     abbrev a : ℕ
     a = getD es (u .at) 0
 
     abbrev b : ℕ
     b = getD es (u .at + 1) 0
 
-    small : (p s to : ℕ) → p < n → s + 1 < to → to ≤ 1024 → (p < 256) × (s < 1024)
-    small p s to h k m = (omega (arith, polys-few), omega arith)
+    small : (s to : ℕ) → s + 1 < to → to ≤ 1024 → s < 1024
+    small s to k m = omega arith
 
-    hp : u .poly < 256
-    hp = small (u .poly) (u .at) (getD st (u .poly + 1) 0) (u .below) (u .to) (ring-within (u .poly) (u .below)) .0
+    hp : of (u .ring) < 256
+    hp = poly-few (u .ring) (u .below)
 
     hs : u .at < 1024
-    hs = small (u .poly) (u .at) (getD st (u .poly + 1) 0) (u .below) (u .to) (ring-within (u .poly) (u .below)) .1
+    hs = small (u .at) (getD st (u .ring + 1) 0) (u .to) (ring-within (u .ring) (u .below))
 
-    ht : nextAt (getD st (u .poly) 0) (getD st (u .poly + 1) 0) (u .at) < 1024
-    ht = next-below (getD st (u .poly) 0) (getD st (u .poly + 1) 0) (u .at) (omega (arith, u .from, u .to)) (u .to) (ring-within (u .poly) (u .below))
+    ht : nextAt (getD st (u .ring) 0) (getD st (u .ring + 1) 0) (u .at) < 1024
+    ht = next-below (getD st (u .ring) 0) (getD st (u .ring + 1) 0) (u .at) (omega (arith, u .from, u .to)) (u .to) (ring-within (u .ring) (u .below))
 
     hd : (x y : ℕ) → min 1 (x - y) < 2
     hd x y = omega arith
 
     pub use-key : keyOf w ≡ edge a b
     unfolding wordOf
-    use-key = ap keyOf (u .is) ∙ word-key (edge a b) (u .poly) (u .at) (nextAt (getD st (u .poly) 0) (getD st (u .poly + 1) 0) (u .at)) (min 1 (a - b)) hp hs ht (hd a b)
+    use-key = ap keyOf (u .is) ∙ word-key (edge a b) (of (u .ring)) (u .at) (nextAt (getD st (u .ring) 0) (getD st (u .ring + 1) 0) (u .at)) (min 1 (a - b)) hp hs ht (hd a b)
 
-    pub use-poly : polyOf w ≡ u .poly
+    pub use-poly : polyOf w ≡ of (u .ring)
     unfolding wordOf
-    use-poly = ap polyOf (u .is) ∙ word-poly (edge a b) (u .poly) (u .at) (nextAt (getD st (u .poly) 0) (getD st (u .poly + 1) 0) (u .at)) (min 1 (a - b)) hp hs ht (hd a b)
+    use-poly = ap polyOf (u .is) ∙ word-poly (edge a b) (of (u .ring)) (u .at) (nextAt (getD st (u .ring) 0) (getD st (u .ring + 1) 0) (u .at)) (min 1 (a - b)) hp hs ht (hd a b)
 
     pub use-step : stepOf w ≡ u .at
     unfolding wordOf
-    use-step = ap stepOf (u .is) ∙ word-step (edge a b) (u .poly) (u .at) (nextAt (getD st (u .poly) 0) (getD st (u .poly + 1) 0) (u .at)) (min 1 (a - b)) hp hs ht (hd a b)
+    use-step = ap stepOf (u .is) ∙ word-step (edge a b) (of (u .ring)) (u .at) (nextAt (getD st (u .ring) 0) (getD st (u .ring + 1) 0) (u .at)) (min 1 (a - b)) hp hs ht (hd a b)
 
-    pub use-next : nextOf w ≡ nextAt (getD st (u .poly) 0) (getD st (u .poly + 1) 0) (u .at)
+    pub use-next : nextOf w ≡ nextAt (getD st (u .ring) 0) (getD st (u .ring + 1) 0) (u .at)
     unfolding wordOf
-    use-next = ap nextOf (u .is) ∙ word-next (edge a b) (u .poly) (u .at) (nextAt (getD st (u .poly) 0) (getD st (u .poly + 1) 0) (u .at)) (min 1 (a - b)) hp hs ht (hd a b)
+    use-next = ap nextOf (u .is) ∙ word-next (edge a b) (of (u .ring)) (u .at) (nextAt (getD st (u .ring) 0) (getD st (u .ring + 1) 0) (u .at)) (min 1 (a - b)) hp hs ht (hd a b)
 
     pub use-dir : dirOf w ≡ min 1 (a - b)
     unfolding wordOf
-    use-dir = ap dirOf (u .is) ∙ word-dir (edge a b) (u .poly) (u .at) (nextAt (getD st (u .poly) 0) (getD st (u .poly + 1) 0) (u .at)) (min 1 (a - b)) hp hs ht (hd a b)
+    use-dir = ap dirOf (u .is) ∙ word-dir (edge a b) (of (u .ring)) (u .at) (nextAt (getD st (u .ring) 0) (getD st (u .ring + 1) 0) (u .at)) (min 1 (a - b)) hp hs ht (hd a b)
 
   -- the step at i of ring p, as a use
-  abbrev pub step-use : (p i : ℕ) → p < n → getD st p 0 ≤ i → i + 1 < getD st (p + 1) 0 → Use es st n (stepWord es p (getD st p 0) (getD st (p + 1) 0) i)
-  step-use p i h f t = record { poly = p; at = i; below = h; from = f; to = t; is = refl }
+  abbrev pub step-use : (p i : ℕ) → p < many → getD st p 0 ≤ i → i + 1 < getD st (p + 1) 0 → Use es st ft n (stepWord es (of p) (getD st p 0) (getD st (p + 1) 0) i)
+  step-use p i h f t = record { ring = p; at = i; below = h; from = f; to = t; is = refl }
 
   -- each word is a use, and each use has a word
-  ring-uses : (p w : ℕ) → p < n → In w (ringWords es st p) → Use es st n w
+  ring-uses : (p w : ℕ) → p < many → In w (ringWords es st (of p) p) → Use es st ft n w
   ring-uses p w h i =
-      let r = in-span (stepWord es p (getD st p 0) (getD st (p + 1) 0)) w (getD st p 0) (getD st (p + 1) 0 - getD st p 0 - 1) i in
-      record { poly = p; at = r .0; below = h; from = r .1; to = inner (getD st p 0) (getD st (p + 1) 0) (r .0) (r .2) (r .1); is = r .3 }
+      let r = in-span (stepWord es (of p) (getD st p 0) (getD st (p + 1) 0)) w (getD st p 0) (getD st (p + 1) 0 - getD st p 0 - 1) i in
+      record { ring = p; at = r .0; below = h; from = r .1; to = inner (getD st p 0) (getD st (p + 1) 0) (r .0) (r .2) (r .1); is = r .3 }
     where
       inner : (a b k : ℕ) → k < a + (b - a - 1) → a ≤ k → k + 1 < b
       inner a b k h g = omega arith
 
-  pub words-use : (m w : ℕ) → m ≤ n → In w (wordsTo es st m) → Use es st n w
+  pub words-use : (m w : ℕ) → m ≤ many → In w (wordsTo es st of m) → Use es st ft n w
   unfolding wordsTo
   words-use zero w h i = absurd i
-  words-use (suc m) w h i = ⊎-elim (λ (j : In w (wordsTo es st m)). words-use m w (omega arith) j) (λ (j : In w (ringWords es st m)). ring-uses m w h j) (in-either w (wordsTo es st m) (ringWords es st m) i)
+  words-use (suc m) w h i = ⊎-elim (λ (j : In w (wordsTo es st of m)). words-use m w (omega arith) j) (λ (j : In w (ringWords es st (of m) m)). ring-uses m w h j) (in-either w (wordsTo es st of m) (ringWords es st (of m) m) i)
 
-  pub use-words : (m p i : ℕ) → p < m → m ≤ n → getD st p 0 ≤ i → i + 1 < getD st (p + 1) 0 → In (stepWord es p (getD st p 0) (getD st (p + 1) 0) i) (wordsTo es st m)
+  pub use-words : (m p i : ℕ) → p < m → m ≤ many → getD st p 0 ≤ i → i + 1 < getD st (p + 1) 0 → In (stepWord es (of p) (getD st p 0) (getD st (p + 1) 0) i) (wordsTo es st of m)
   unfolding wordsTo
   use-words zero p i h k f t = absurd (not-suc-le-zero h)
   use-words (suc m) p i h k f t =
       by-cases
       (ℕ-discrete m p)
-      (λ e. in-right (stepWord es p (getD st p 0) (getD st (p + 1) 0) i) (wordsTo es st m) (ringWords es st m) (subst (λ (q : ℕ). In (stepWord es p (getD st p 0) (getD st (p + 1) 0) i) (ringWords es st q)) (sym e) (span-in (stepWord es p (getD st p 0) (getD st (p + 1) 0)) (getD st p 0) (getD st (p + 1) 0 - getD st p 0 - 1) i f (inner (getD st p 0) (getD st (p + 1) 0) i f t))))
-      (λ d. in-left (stepWord es p (getD st p 0) (getD st (p + 1) 0) i) (wordsTo es st m) (ringWords es st m) (use-words m p i (omega arith) (omega arith) f t))
+      (λ e. in-right (stepWord es (of p) (getD st p 0) (getD st (p + 1) 0) i) (wordsTo es st of m) (ringWords es st (of m) m) (subst (λ (q : ℕ). In (stepWord es (of p) (getD st p 0) (getD st (p + 1) 0) i) (ringWords es st (of q) q)) (sym e) (span-in (stepWord es (of p) (getD st p 0) (getD st (p + 1) 0)) (getD st p 0) (getD st (p + 1) 0 - getD st p 0 - 1) i f (inner (getD st p 0) (getD st (p + 1) 0) i f t))))
+      (λ d. in-left (stepWord es (of p) (getD st p 0) (getD st (p + 1) 0) i) (wordsTo es st of m) (ringWords es st (of m) m) (use-words m p i (omega arith) (omega arith) f t))
     where
       inner : (a b k : ℕ) → a ≤ k → k + 1 < b → k < a + (b - a - 1)
       inner a b k g h = omega arith
 
   -- there are fewer words than entries
-  words-within : (m : ℕ) → m ≤ n → length (wordsTo es st m) ≤ getD st m 0
+  words-within : (m : ℕ) → m ≤ many → length (wordsTo es st of m) ≤ getD st m 0
   unfolding wordsTo
   words-within zero h = zero-le
-  words-within (suc m) h = sum (getD st m 0) (getD st (m + 1) 0) (getD st (suc m) 0) (length (wordsTo es st m)) (length (wordsTo es st m ++ ringWords es st m)) (up .rises m h) (ap (λ (k : ℕ). getD st k 0) (add-one m)) (words-within m (omega arith)) (length-append (wordsTo es st m) (ringWords es st m) ∙ ap (λ (k : ℕ). length (wordsTo es st m) + k) (length-span (stepWord es m (getD st m 0) (getD st (m + 1) 0)) (getD st m 0) (getD st (m + 1) 0 - getD st m 0 - 1)))
+  words-within (suc m) h = sum (getD st m 0) (getD st (m + 1) 0) (getD st (suc m) 0) (length (wordsTo es st of m)) (length (wordsTo es st of m ++ ringWords es st (of m) m)) (l .layout .ordered m (m + 1) (omega arith) (omega arith)) (ap (λ (k : ℕ). getD st k 0) (add-one m)) (words-within m (omega arith)) (length-append (wordsTo es st of m) (ringWords es st (of m) m) ∙ ap (λ (k : ℕ). length (wordsTo es st of m) + k) (length-span (stepWord es (of m) (getD st m 0) (getD st (m + 1) 0)) (getD st m 0) (getD st (m + 1) 0 - getD st m 0 - 1)))
     where
       sum : (a b c x y : ℕ) → a ≤ b → b ≡ c → x ≤ a → y ≡ x + (b - a - 1) → y ≤ c
       sum a b c x y h e k q = omega arith
 
-  pub words-few : length (wordsTo es st n) ≤ 1024
-  words-few = omega (arith, words-within n (le-refl n), l .begin .inside)
+  pub words-few : length (wordsOf es st ft n) ≤ 1024
+  words-few = omega (arith, words-within many (le-refl many), l .layout .inside)
 
   -- the edges of ring p
-  pub ring-edges : (p : ℕ) → p < n → edgesOf (ringAt es st p) ≡ span (λ i. edge (getD es i 0) (getD es (i + 1) 0)) (getD st p 0) (getD st (p + 1) 0 - getD st p 0 - 1)
+  pub ring-edges : (p : ℕ) → p < many → edgesOf (ringAt es st p) ≡ span (λ i. edge (getD es i 0) (getD es (i + 1) 0)) (getD st p 0) (getD st (p + 1) 0 - getD st p 0 - 1)
   unfolding edgesOf
   ring-edges p h = ap (map (λ s. edge (s .0) (s .1))) (ring-steps p h) ∙ map-span (λ s. edge (s .0) (s .1)) (pairAt es) (getD st p 0) (getD st (p + 1) 0 - getD st p 0 - 1)
 
-  pub ring-ways : (p : ℕ) → p < n → waysOf (ringAt es st p) ≡ span (λ i. way (getD es i 0) (getD es (i + 1) 0)) (getD st p 0) (getD st (p + 1) 0 - getD st p 0 - 1)
+  pub ring-ways : (p : ℕ) → p < many → waysOf (ringAt es st p) ≡ span (λ i. way (getD es i 0) (getD es (i + 1) 0)) (getD st p 0) (getD st (p + 1) 0 - getD st p 0 - 1)
   unfolding waysOf
   ring-ways p h = ap (map (λ s. way (s .0) (s .1))) (ring-steps p h) ∙ map-span (λ s. way (s .0) (s .1)) (pairAt es) (getD st p 0) (getD st (p + 1) 0 - getD st p 0 - 1)
 
   -- the keys of the words are the edges of the rings, in the same order
-  ring-keys : (p : ℕ) → p < n → map keyOf (ringWords es st p) ≡ edgesOf (ringAt es st p)
+  ring-keys : (p : ℕ) → p < many → map keyOf (ringWords es st (of p) p) ≡ edgesOf (ringAt es st p)
   ring-keys p h =
-      map-span keyOf (stepWord es p (getD st p 0) (getD st (p + 1) 0)) (getD st p 0) (getD st (p + 1) 0 - getD st p 0 - 1)
-      ∙ span-same (λ i. keyOf (stepWord es p (getD st p 0) (getD st (p + 1) 0) i)) (λ i. edge (getD es i 0) (getD es (i + 1) 0)) (getD st p 0) (getD st (p + 1) 0 - getD st p 0 - 1) (λ k f t. use-key (stepWord es p (getD st p 0) (getD st (p + 1) 0) k) (step-use p k h f (inner (getD st p 0) (getD st (p + 1) 0) k t f)))
+      map-span keyOf (stepWord es (of p) (getD st p 0) (getD st (p + 1) 0)) (getD st p 0) (getD st (p + 1) 0 - getD st p 0 - 1)
+      ∙ span-same (λ i. keyOf (stepWord es (of p) (getD st p 0) (getD st (p + 1) 0) i)) (λ i. edge (getD es i 0) (getD es (i + 1) 0)) (getD st p 0) (getD st (p + 1) 0 - getD st p 0 - 1) (λ k f t. use-key (stepWord es (of p) (getD st p 0) (getD st (p + 1) 0) k) (step-use p k h f (inner (getD st p 0) (getD st (p + 1) 0) k t f)))
       ∙ sym (ring-edges p h)
     where
       inner : (a b k : ℕ) → k < a + (b - a - 1) → a ≤ k → k + 1 < b
       inner a b k h g = omega arith
 
-  pub keys-all : (m : ℕ) → m ≤ n → map keyOf (wordsTo es st m) ≡ all edgesOf (rings es st m)
-  unfolding wordsTo rings tab all
-  keys-all zero h = refl
-  keys-all (suc m) h =
-      map-append keyOf (wordsTo es st m) (ringWords es st m)
-      ∙ ap₂ (λ (a b : List ℕ). a ++ b) (keys-all m (omega arith)) (ring-keys m h)
+  keys-to : (m : ℕ) → m ≤ many → map keyOf (wordsTo es st of m) ≡ all edgesOf (tab (ringAt es st) m)
+  unfolding wordsTo tab all
+  keys-to zero h = refl
+  keys-to (suc m) h =
+      map-append keyOf (wordsTo es st of m) (ringWords es st (of m) m)
+      ∙ ap₂ (λ (a b : List ℕ). a ++ b) (keys-to m (omega arith)) (ring-keys m h)
       ∙ sym (all-append edgesOf (tab (ringAt es st) m) (ringAt es st m))
+
+  pub keys-all : map keyOf (wordsOf es st ft n) ≡ all edgesOf (allRings (polygons es st ft n))
+  keys-all = keys-to many (le-refl many) ∙ ap (all edgesOf) (sym (rings-all es st ft n (l .layout)))

@@ -10,20 +10,21 @@ use lib.Arith.{lt-of-le-ne}
 use lib.Dec.{eqb}
 use lib.ListN.{length, replicate, length-append, length-replicate}
 use Rattle.whole.specs.Lists.{keep, given, first}
-use Rattle.edges.specs.Edges.{edge, smaller, larger, edgesOf, all, count}
+use Rattle.ring.specs.Polygon.{Polygon, ringsOf, all, allRings}
+use Rattle.edges.specs.Edges.{edge, smaller, larger, edgesOf, count}
 use Rattle.edges.specs.Order.{ascending}
 use Rattle.edges.specs.held.Ascending.{In, Asc}
 use Rattle.edges.specs.laws.EdgeLaws.{edge-sym, smaller-edge, larger-edge}
 use Rattle.edges.specs.laws.Tallies.{tally-nil, tally-append, in-tally}
 use Rattle.edges.specs.laws.Ascending.{asc-ascending, in-ascending, ascending-in}
 use Rattle.shell.specs.laws.Closure.{keep-in, in-keep}
-use Rattle.shell.specs.laws.Adequate.{uses, used}
+use Rattle.shell.specs.laws.Adequate.{uses, used, all-both}
 use Rattle.users.specs.EdgeList.{usersFrom, usersOf, Listed, listed, isEdge, once, edgesOnce, edgeList, lookedUp, across}
 
 -- "in either order"
-pub either-order : (a b : ℕ) (rings : List (List ℕ)) → across a b rings ≡ across b a rings
+pub either-order : (a b : ℕ) (ps : List Polygon) → across a b ps ≡ across b a ps
 unfolding across
-either-order a b rings = ap (λ (e : ℕ). lookedUp e (edgeList rings)) (edge-sym a b)
+either-order a b ps = ap (λ (e : ℕ). lookedUp e (edgeList ps)) (edge-sym a b)
 
 -- ---- each number of a list in ascending order once
 
@@ -70,24 +71,24 @@ once-strict (x ∷ y ∷ l) a = go (eqb x y) refl (once-strict (y ∷ l) (a .1))
 
 -- ---- what stands in the list: each edge that a ring uses, but no step from a number to itself
 
-pub ascending-list : (rings : List (List ℕ)) → Strict (edgesOnce rings)
+pub ascending-list : (ps : List Polygon) → Strict (edgesOnce ps)
 unfolding edgesOnce
-ascending-list rings = once-strict (ascending (keep isEdge (all edgesOf rings))) (asc-ascending (keep isEdge (all edgesOf rings)))
+ascending-list ps = once-strict (ascending (keep isEdge (all edgesOf (allRings ps)))) (asc-ascending (keep isEdge (all edgesOf (allRings ps))))
 
-pub list-has : (e : ℕ) (rings : List (List ℕ)) → In e (all edgesOf rings) → isEdge e ≡ true → In e (edgesOnce rings)
+pub list-has : (e : ℕ) (ps : List Polygon) → In e (all edgesOf (allRings ps)) → isEdge e ≡ true → In e (edgesOnce ps)
 unfolding edgesOnce
-list-has e rings i t =
-    in-once e (ascending (keep isEdge (all edgesOf rings))) (ascending-in (keep isEdge (all edgesOf rings)) e (in-keep isEdge e (all edgesOf rings) i t))
+list-has e ps i t =
+    in-once e (ascending (keep isEdge (all edgesOf (allRings ps)))) (ascending-in (keep isEdge (all edgesOf (allRings ps))) e (in-keep isEdge e (all edgesOf (allRings ps)) i t))
 
-pub has-list : (e : ℕ) (rings : List (List ℕ)) → In e (edgesOnce rings) → In e (all edgesOf rings) × (isEdge e ≡ true)
+pub has-list : (e : ℕ) (ps : List Polygon) → In e (edgesOnce ps) → In e (all edgesOf (allRings ps)) × (isEdge e ≡ true)
 unfolding edgesOnce
-has-list e rings i =
-    keep-in isEdge e (all edgesOf rings) (in-ascending (keep isEdge (all edgesOf rings)) e (once-in e (ascending (keep isEdge (all edgesOf rings))) i))
+has-list e ps i =
+    keep-in isEdge e (all edgesOf (allRings ps)) (in-ascending (keep isEdge (all edgesOf (allRings ps))) e (once-in e (ascending (keep isEdge (all edgesOf (allRings ps)))) i))
 
 -- "a step from a number to itself is no edge"
-pub no-self : (e : ℕ) (rings : List (List ℕ)) → In e (edgesOnce rings) → smaller e ≡ larger e → ⊥
+pub no-self : (e : ℕ) (ps : List Polygon) → In e (edgesOnce ps) → smaller e ≡ larger e → ⊥
 unfolding isEdge
-no-self e rings i q = true≢false (sym (has-list e rings i .1) ∙ ap not (eq-eqb (smaller e) (larger e) q))
+no-self e ps i q = true≢false (sym (has-list e ps i .1) ∙ ap not (eq-eqb (smaller e) (larger e) q))
 
 -- the edge between two different points is an edge
 pub is-edge : (a b : ℕ) → a < 65536 → b < 65536 → (a ≡ b → ⊥) → isEdge (edge a b) ≡ true
@@ -99,27 +100,27 @@ is-edge a b h g n = ap not (ap₂ eqb (smaller-edge a b h g) (larger-edge a b h 
 
 -- ---- an edge has as many users as uses
 
-users-number : (e p : ℕ) (rings : List (List ℕ)) → length (usersFrom e p rings) ≡ uses rings e
-unfolding usersFrom uses all count
-users-number e p [] = sym (tally-nil (eqb e))
-users-number e p (r ∷ rings) =
-    length-append (replicate (count e (edgesOf r)) p) (usersFrom e (suc p) rings)
-    ∙ ap₂ (λ (x y : ℕ). x + y) (length-replicate (count e (edgesOf r)) p) (users-number e (suc p) rings)
-    ∙ sym (tally-append (eqb e) (edgesOf r) (all edgesOf rings))
+users-number : (e n : ℕ) (ps : List Polygon) → length (usersFrom e n ps) ≡ uses (allRings ps) e
+unfolding usersFrom uses allRings all count
+users-number e n [] = sym (tally-nil (eqb e))
+users-number e n (p ∷ ps) =
+    length-append (replicate (count e (all edgesOf (ringsOf p))) n) (usersFrom e (suc n) ps)
+    ∙ ap₂ (λ (x y : ℕ). x + y) (length-replicate (count e (all edgesOf (ringsOf p))) n) (users-number e (suc n) ps)
+    ∙ sym (ap (λ (l : List ℕ). count e l) (all-both edgesOf (ringsOf p) (allRings ps)) ∙ tally-append (eqb e) (all edgesOf (ringsOf p)) (all edgesOf (allRings ps)))
 
-pub users-uses : (e : ℕ) (rings : List (List ℕ)) → length (usersOf e rings) ≡ uses rings e
+pub users-uses : (e : ℕ) (ps : List Polygon) → length (usersOf e ps) ≡ uses (allRings ps) e
 unfolding usersOf
-users-uses e rings = users-number e 0 rings
+users-uses e ps = users-number e 0 ps
 
-pub some-use : (e : ℕ) (rings : List (List ℕ)) → In e (all edgesOf rings) → 1 ≤ uses rings e
+pub some-use : (e : ℕ) (ps : List Polygon) → In e (all edgesOf (allRings ps)) → 1 ≤ uses (allRings ps) e
 unfolding uses count
-some-use e rings i = in-tally (eqb e) e (all edgesOf rings) i (eq-eqb e e refl)
+some-use e ps i = in-tally (eqb e) e (all edgesOf (allRings ps)) i (eq-eqb e e refl)
 
 -- ---- looking an edge up
 
-numbered-so : (rings : List (List ℕ)) (x : ℕ) → listed x (usersOf x rings) .number ≡ x
+numbered-so : (ps : List Polygon) (x : ℕ) → listed x (usersOf x ps) .number ≡ x
 unfolding listed
-numbered-so rings x = refl
+numbered-so ps x = refl
 
 module _ (f : ℕ → Listed) (numbered : (x : ℕ) → f x .number ≡ x) (e : ℕ) (d : Listed) where
   found : (l : List ℕ) → In e l → first d (map (λ x. given (eqb e (x .number)) x) (map f l)) ≡ f e
@@ -145,21 +146,21 @@ empty [] h = refl
 empty (x ∷ l) h = absurd (omega arith)
 
 -- the list tells the users of an edge, none where no ring has it
-pub told-users : (e : ℕ) (rings : List (List ℕ)) → isEdge e ≡ true → lookedUp e (edgeList rings) ≡ listed e (usersOf e rings)
+pub told-users : (e : ℕ) (ps : List Polygon) → isEdge e ≡ true → lookedUp e (edgeList ps) ≡ listed e (usersOf e ps)
 unfolding lookedUp edgeList
-told-users e rings is = go (uses rings e) refl
+told-users e ps is = go (uses (allRings ps) e) refl
   where
-    go : (n : ℕ) → uses rings e ≡ n → lookedUp e (edgeList rings) ≡ listed e (usersOf e rings)
+    go : (n : ℕ) → uses (allRings ps) e ≡ n → lookedUp e (edgeList ps) ≡ listed e (usersOf e ps)
     go zero q =
-        missing (λ x. listed x (usersOf x rings)) (numbered-so rings) e (listed e []) (edgesOnce rings) (λ i. unused (some-use e rings (has-list e rings i .0)))
-        ∙ ap (listed e) (sym (empty (usersOf e rings) (users-uses e rings ∙ q)))
+        missing (λ x. listed x (usersOf x ps)) (numbered-so ps) e (listed e []) (edgesOnce ps) (λ i. unused (some-use e ps (has-list e ps i .0)))
+        ∙ ap (listed e) (sym (empty (usersOf e ps) (users-uses e ps ∙ q)))
       where
-        unused : 1 ≤ uses rings e → ⊥
+        unused : 1 ≤ uses (allRings ps) e → ⊥
         unused h = omega arith
     go (suc n) q =
-        found (λ x. listed x (usersOf x rings)) (numbered-so rings) e (listed e []) (edgesOnce rings) (list-has e rings (used rings e (omega arith)) is)
+        found (λ x. listed x (usersOf x ps)) (numbered-so ps) e (listed e []) (edgesOnce ps) (list-has e ps (used (allRings ps) e (omega arith)) is)
 
 -- "Frame 0C asks for two point numbers in either order and answers .. users .., first user .., second user"
-pub across-is : (a b : ℕ) (rings : List (List ℕ)) → a < 65536 → b < 65536 → (a ≡ b → ⊥) → across a b rings ≡ listed (edge a b) (usersOf (edge a b) rings)
+pub across-is : (a b : ℕ) (ps : List Polygon) → a < 65536 → b < 65536 → (a ≡ b → ⊥) → across a b ps ≡ listed (edge a b) (usersOf (edge a b) ps)
 unfolding across
-across-is a b rings h g n = told-users (edge a b) rings (is-edge a b h g n)
+across-is a b ps h g n = told-users (edge a b) ps (is-edge a b h g n)

@@ -1,8 +1,9 @@
 -- In an accepted building each edge has exactly two users, and they differ.
 use Prim.Native.Nat.{ℕ, zero, suc, _+_, _-_, _≤_, _<_, min, max}
 use native.Mathlib.Decide.{ℕ-discrete, decLt}
+use native.Mathlib.Nat.{le-of-suc-le-suc, not-suc-le-zero}
 use native.Mathlib.Omega.{arith}
-use mathlib.Core.Path.{_≡_, refl, sym, ap, _∙_}
+use mathlib.Core.Path.{_≡_, refl, sym, ap, subst, _∙_}
 use mathlib.Core.Logic.{_⊎_, inl, inr, ⊎-elim, by-cases}
 use mathlib.Core.List.{List, [], _∷_, _++_, map}
 use mathlib.Core.Option.{none}
@@ -13,12 +14,13 @@ use Rattle.whole.specs.Lists.{steps}
 use Rattle.whole.specs.All.{All}
 use Rattle.whole.specs.All as A
 use Rattle.whole.specs.laws.Places.{steps-length, steps-at, map-at}
+use Rattle.ring.specs.Polygon.{Polygon, ringsOf, all, allRings}
 use Rattle.edges.specs.Edges.{edge, smaller, larger, edgesOf, count, usedOnce, usedOften}
 use Rattle.edges.specs.held.Ascending.{In}
 use Rattle.edges.specs.laws.EdgeLaws.{smaller-edge, larger-edge}
-use Rattle.edges.specs.laws.Tallies.{tally-nil, tally-in, in-place, in-either}
+use Rattle.edges.specs.laws.Tallies.{tally-nil, tally-append, tally-in, in-place, place-in, in-either}
 use Rattle.shell.specs.held.Kept.{Sound}
-use Rattle.shell.specs.laws.Adequate.{uses, once-is, often-is}
+use Rattle.shell.specs.laws.Adequate.{uses, once-is, often-is, all-in}
 use Rattle.shell.specs.laws.Keys.{count-yes, count-no}
 use Rattle.users.specs.EdgeList.{usersFrom, usersOf, Listed, listed, edgesOnce, edgeList}
 use Rattle.users.specs.laws.Listing.{Strict, has-list, some-use, users-uses}
@@ -99,6 +101,61 @@ used-alone ring s v e =
     (λ i j a b q. let h : j + 1 < length ring = omega (arith, edges-length ring s v) in
     steps-apart ring s v i j a h (sym (edge-at ring s v i (omega arith)) ∙ q ∙ edge-at ring s v j h))
 
+-- the smaller number of an edge that a ring uses is one that it lists
+edge-end : (ring : List ℕ) → Sound ring → Numbers ring → (e : ℕ) → In e (edgesOf ring) → In (smaller e) ring
+edge-end ring s v e i =
+    let p = in-place e (edgesOf ring) i in
+    let h : p .0 + 1 < length ring = omega (arith, p .1, edges-length ring s v) in
+    let q : e ≡ edge (getD ring (p .0) 0) (getD ring (p .0 + 1) 0) = sym (p .2) ∙ edge-at ring s v (p .0) h in
+    subst (λ (x : ℕ). In x ring) (sym (ap smaller q ∙ smaller-edge (getD ring (p .0) 0) (getD ring (p .0 + 1) 0) (number-at v (p .0)) (number-at v (p .0 + 1)))) (least (getD ring (p .0) 0) (getD ring (p .0 + 1) 0) (place-in ring (p .0) (omega arith)) (place-in ring (p .0 + 1) h))
+  where
+    least : (a b : ℕ) → In a ring → In b ring → In (min a b) ring
+    least a b i j = by-cases (decLt b a) (λ lt. subst (λ (x : ℕ). In x ring) (right lt) j) (λ ge. subst (λ (x : ℕ). In x ring) (left ge) i)
+      where
+        right : b < a → b ≡ min a b
+        right lt = omega arith
+
+        left : (b < a → ⊥) → a ≡ min a b
+        left ge = omega arith
+
+-- ---- a polygon uses no edge twice
+
+-- rings of which no two list one number
+abbrev pub Separate : List (List ℕ) → Type 0
+Separate [] = Unit {0}
+Separate (r ∷ rs) = All (λ (s : List ℕ). (v : ℕ) → In v r → In v s → ⊥) rs × Separate rs
+
+-- a polygon whose rings pass checks 01 to 03, and no two of which list one number
+pub record Sole (p : Polygon) : Type 0 where
+  pub sound : All Sound (ringsOf p)
+  pub numbers : All Numbers (ringsOf p)
+  pub separate : Separate (ringsOf p)
+
+all-at : {P : List ℕ → Type 0} {rs : List (List ℕ)} → All P rs → (i : ℕ) → i < length rs → P (getD rs i [])
+all-at A.none i h = absurd (not-suc-le-zero h)
+all-at (A.more x a) zero h = x
+all-at (A.more x a) (suc i) h = all-at a i (le-of-suc-le-suc h)
+
+rings-alone : (e : ℕ) {rs : List (List ℕ)} → All Sound rs → All Numbers rs → Separate rs → count e (all edgesOf rs) ≤ 1
+unfolding all count
+rings-alone e A.none A.none x = omega (arith, tally-nil (eqb e))
+rings-alone e (A.more {x = r} {l = rs} s ss) (A.more v vs) x =
+    let here : count e (edgesOf r) ≤ 1 = used-alone r s v e in
+    let there : count e (all edgesOf rs) ≤ 1 = rings-alone e ss vs (x .1) in
+    let sum : count e (edgesOf r ++ all edgesOf rs) ≡ count e (edgesOf r) + count e (all edgesOf rs) = tally-append (eqb e) (edgesOf r) (all edgesOf rs) in
+    by-cases (decLt 0 (count e (edgesOf r))) (λ a. by-cases (decLt 0 (count e (all edgesOf rs))) (λ b. absurd (both a b)) (λ b. omega arith)) (λ a. omega arith)
+  where
+    uses-it : (l : List ℕ) → 0 < count e l → In e l
+    uses-it l c = let t = tally-in (eqb e) l c in subst (λ (y : ℕ). In y l) (sym (eqb-true e (t .0) (t .2))) (t .1)
+
+    both : 0 < count e (edgesOf r) → 0 < count e (all edgesOf rs) → ⊥
+    both a b =
+        let w = all-in edgesOf rs e (uses-it (all edgesOf rs) b) in
+        all-at (x .0) (w .0) (w .1) (smaller e) (edge-end r s v e (uses-it (edgesOf r) a)) (edge-end (getD rs (w .0) []) (all-at ss (w .0) (w .1)) (all-at vs (w .0) (w .1)) e (w .2))
+
+pub polygon-alone : (p : Polygon) → Sole p → (e : ℕ) → count e (all edgesOf (ringsOf p)) ≤ 1
+polygon-alone p s e = rings-alone e (s .sound) (s .numbers) (s .separate)
+
 -- ---- so each of its users is another
 
 strict-front : (p k : ℕ) (l : List ℕ) → k ≤ 1 → ((y : ℕ) → In y l → p < y) → Strict l → Strict (replicate k p ++ l)
@@ -109,19 +166,19 @@ strict-front p (suc (suc k)) l h g s = absurd (bad h)
     bad : suc (suc k) ≤ 1 → ⊥
     bad h = omega arith
 
-users-strict : (e p : ℕ) {rs : List (List ℕ)} → All (λ (r : List ℕ). count e (edgesOf r) ≤ 1) rs → Strict (usersFrom e p rs)
+users-strict : (e n : ℕ) {ps : List Polygon} → All Sole ps → Strict (usersFrom e n ps)
 unfolding usersFrom
-users-strict e p A.none = tt
-users-strict e p (A.more {x = r} {l = rs} h a) = strict-front p (count e (edgesOf r)) (usersFrom e (suc p) rs) h (users-above e (suc p) rs) (users-strict e (suc p) a)
+users-strict e n A.none = tt
+users-strict e n (A.more {x = p} {l = ps} s a) = strict-front n (count e (all edgesOf (ringsOf p))) (usersFrom e (suc n) ps) (polygon-alone p s e) (users-above e (suc n) ps) (users-strict e (suc n) a)
 
-users-below : (e p : ℕ) (rs : List (List ℕ)) (y : ℕ) → In y (usersFrom e p rs) → y < p + length rs
+users-below : (e n : ℕ) (ps : List Polygon) (y : ℕ) → In y (usersFrom e n ps) → y < n + length ps
 unfolding usersFrom
-users-below e p [] y i = absurd i
-users-below e p (r ∷ rs) y i =
+users-below e n [] y i = absurd i
+users-below e n (p ∷ ps) y i =
     ⊎-elim
-    (λ (j : In y (replicate (count e (edgesOf r)) p)). omega (arith, in-replicate p (count e (edgesOf r)) y j))
-    (λ (j : In y (usersFrom e (suc p) rs)). omega (arith, users-below e (suc p) rs y j))
-    (in-either y (replicate (count e (edgesOf r)) p) (usersFrom e (suc p) rs) i)
+    (λ (j : In y (replicate (count e (all edgesOf (ringsOf p))) n)). omega (arith, in-replicate n (count e (all edgesOf (ringsOf p))) y j))
+    (λ (j : In y (usersFrom e (suc n) ps)). omega (arith, users-below e (suc n) ps y j))
+    (in-either y (replicate (count e (all edgesOf (ringsOf p))) n) (usersFrom e (suc n) ps) i)
 
 strict-two : (l : List ℕ) (d : ℕ) → Strict l → length l ≡ 2 → (getD l 0 d < getD l 1 d) × In (getD l 1 d) l
 strict-two [] d s h = absurd (omega arith)
@@ -138,23 +195,19 @@ all-listed : {P : Listed → Type 0} (f : ℕ → Listed) (l : List ℕ) → ((e
 all-listed f [] h = A.none
 all-listed f (e ∷ l) h = A.more (h e (inl refl)) (all-listed f l (λ x i. h x (inr i)))
 
-each-alone : (e : ℕ) {rings : List (List ℕ)} → All Sound rings → All Numbers rings → All (λ (r : List ℕ). count e (edgesOf r) ≤ 1) rings
-each-alone e A.none A.none = A.none
-each-alone e (A.more {x = r} s ss) (A.more v vs) = A.more (used-alone r s v e) (each-alone e ss vs)
-
-told-two : (e : ℕ) (rings : List (List ℕ)) → All (λ (r : List ℕ). count e (edgesOf r) ≤ 1) rings → length (usersOf e rings) ≡ 2 → TwoUsers (length rings) (listed e (usersOf e rings))
+told-two : (e : ℕ) (ps : List Polygon) → All Sole ps → length (usersOf e ps) ≡ 2 → TwoUsers (length ps) (listed e (usersOf e ps))
 unfolding usersOf listed
-told-two e rings a h =
-    let r = strict-two (usersFrom e 0 rings) 65535 (users-strict e 0 a) h in
-    (h, r .0, omega (arith, users-below e 0 rings (getD (usersFrom e 0 rings) 1 65535) (r .1)))
+told-two e ps a h =
+    let r = strict-two (usersFrom e 0 ps) 65535 (users-strict e 0 a) h in
+    (h, r .0, omega (arith, users-below e 0 ps (getD (usersFrom e 0 ps) 1 65535) (r .1)))
 
--- where every ring passes checks 01 to 03, and no edge is used once and none more than twice
-pub two-users : (rings : List (List ℕ)) → All Sound rings → All Numbers rings → usedOnce rings ≡ none → usedOften rings ≡ none → All (TwoUsers (length rings)) (edgeList rings)
+-- where every ring passes checks 01 to 03, no two of a polygon list one number, and no edge is used once and none more than twice
+pub two-users : (ps : List Polygon) → All Sole ps → usedOnce (allRings ps) ≡ none → usedOften (allRings ps) ≡ none → All (TwoUsers (length ps)) (edgeList ps)
 unfolding edgeList
-two-users rings s v once often = all-listed (λ e. listed e (usersOf e rings)) (edgesOnce rings) (λ e i. told-two e rings (each-alone e s v) (users-uses e rings ∙ both e i))
+two-users ps s once often = all-listed (λ e. listed e (usersOf e ps)) (edgesOnce ps) (λ e i. told-two e ps s (users-uses e ps ∙ both e i))
   where
     exactly : (k : ℕ) → 1 ≤ k → (k ≡ 1 → ⊥) → (2 < k → ⊥) → k ≡ 2
     exactly k h x y = omega arith
 
-    both : (e : ℕ) → In e (edgesOnce rings) → uses rings e ≡ 2
-    both e i = exactly (uses rings e) (some-use e rings (has-list e rings i .0)) (once-is rings .missing once e) (often-is rings .missing often e)
+    both : (e : ℕ) → In e (edgesOnce ps) → uses (allRings ps) e ≡ 2
+    both e i = exactly (uses (allRings ps) e) (some-use e ps (has-list e ps i .0)) (once-is (allRings ps) .missing once e) (often-is (allRings ps) .missing often e)

@@ -1,7 +1,8 @@
--- The users that the words of the edge table tell are those of the rings, whatever the rings' findings: open, short and empty ones too.
+-- The users that the words of the edge table tell are those of the polygons, whatever their findings: open, short and empty rings too.
 use Prim.Native.Nat.{ℕ, zero, suc, _+_, _-_, _/_, _%_, _≤_, _<_, min}
 use native.Mathlib.Omega.{arith}
 use native.Mathlib.Nat.{le-refl}
+use native.Mathlib.Numerals.{add-one}
 use mathlib.Core.Path.{_≡_, refl, sym, ap, ap₂, subst, _∙_}
 use mathlib.Core.Bool.{Bool, true, false}
 use mathlib.Core.Logic.{inl, inr, ⊎-elim}
@@ -11,19 +12,23 @@ use lib.Dec.{eqb}
 use lib.ListN.{length, getD, take, drop, replicate}
 use Rattle.whole.specs.Lists.{steps, tab, keep, tally}
 use Rattle.whole.specs.laws.Places.{tab-length}
+use Rattle.whole.specs.held.Spans.{span}
+use Rattle.whole.specs.laws.Spans.{map-span, span-append}
+use Rattle.ring.specs.Polygon.{Polygon, ringsOf, all, allRings}
+use Rattle.ring.specs.held.Rings.{ringAt, polygonAt, polygons, Layout, ownerOf}
+use Rattle.ring.specs.laws.Owners.{owned, owner-few, rings-at, firsts-ordered}
 use Rattle.edges.specs.Edges.{edge, edgesOf, count}
 use Rattle.edges.specs.Order.{ascending}
 use Rattle.edges.specs.held.Ascending.{In, Asc}
-use Rattle.edges.specs.held.Table.{wordOf, stepWord, nextAt, span, ringWords, wordsTo}
-use Rattle.edges.specs.laws.Tallies.{tally-map, in-either}
+use Rattle.edges.specs.held.Table.{wordOf, stepWord, nextAt, ringWords, wordsTo, wordsOf}
+use Rattle.edges.specs.laws.Tallies.{tally-map, tally-append, in-either}
 use Rattle.edges.specs.laws.Ascending.{asc-ascending, asc-unique, tally-ascending}
 use Rattle.words.specs.held.Words.{keyOf, polyOf}
-use Rattle.shell.specs.held.Held.{ringAt, rings, Starts}
-use Rattle.shell.specs.held.Kept.{turnedRings}
+use Rattle.shell.specs.held.Kept.{turnedPolygons}
 use Rattle.shell.specs.laws.Closure.{keep-in}
 use Rattle.shell.specs.laws.Pairs.{ofEdge}
-use Rattle.shell.specs.laws.Uses.{word-key, word-poly, next-below, map-span, map-append, pairAt, steps-part}
-use Rattle.directions.specs.laws.Turned.{turned-rings}
+use Rattle.shell.specs.laws.Uses.{word-key, word-poly, next-below, map-append, all-append, pairAt, steps-part}
+use Rattle.directions.specs.laws.Turned.{turned-polygons}
 use Rattle.users.specs.EdgeList.{usersFrom, usersOf, listed, across}
 use Rattle.users.specs.held.Users.{usersIn, Told}
 use Rattle.users.specs.laws.Keeps.{keep-append, both, tally-keep}
@@ -77,17 +82,17 @@ span-users e p f g i (suc n) h = go (eqb e (g i)) refl (span-users e p f g (i + 
         let k : eqb e (keyOf (f i)) ≡ false = ap (eqb e) (q .0) ∙ z in
         rw (k, z, usersIn, keep, count, tally) ih
 
-ring-users : (e : ℕ) (es st : List ℕ) (p : ℕ) → p < 256 → getD st (p + 1) 0 ≤ 1024 → length es ≡ 1024 → usersIn e (ringWords es st p) ≡ replicate (count e (edgesOf (ringAt es st p))) p
-ring-users e es st p hp w s =
+ring-users : (e : ℕ) (es st : List ℕ) (p r : ℕ) → p < 256 → getD st (r + 1) 0 ≤ 1024 → length es ≡ 1024 → usersIn e (ringWords es st p r) ≡ replicate (count e (edgesOf (ringAt es st r))) p
+ring-users e es st p r hp w s =
     span-users e p (stepWord es p from to) (λ k. edge (getD es k 0) (getD es (k + 1) 0)) from (to - from - 1)
     (λ k a b. let c : k + 1 < to = inner from to k b a in (step-key es p from to k hp a c w, step-poly es p from to k hp a c w))
     ∙ ap (λ (l : List ℕ). replicate (count e l) p) (sym (edges-part es from to (omega arith)))
   where
     from : ℕ
-    from = getD st p 0
+    from = getD st r 0
 
     to : ℕ
-    to = getD st (p + 1) 0
+    to = getD st (r + 1) 0
 
     inner : (a b k : ℕ) → k < a + (b - a - 1) → a ≤ k → k + 1 < b
     inner a b k h g = omega arith
@@ -98,26 +103,90 @@ users-append : (e : ℕ) (a b : List ℕ) → usersIn e (a ++ b) ≡ usersIn e a
 unfolding usersIn
 users-append e a b = ap (map polyOf) (keep-append (ofEdge e) a b) ∙ map-append polyOf (keep (ofEdge e) a) (keep (ofEdge e) b)
 
-one-ring-more : (e p : ℕ) (rs : List (List ℕ)) (r : List ℕ) → usersFrom e p (rs ++ (r ∷ [])) ≡ usersFrom e p rs ++ replicate (count e (edgesOf r)) (p + length rs)
+one-polygon-more : (e n : ℕ) (ps : List Polygon) (p : Polygon) → usersFrom e n (ps ++ (p ∷ [])) ≡ usersFrom e n ps ++ replicate (count e (all edgesOf (ringsOf p))) (n + length ps)
 unfolding usersFrom
-one-ring-more e p [] r = let z : p + 0 ≡ p = omega arith in rw z (append-nil (replicate (count e (edgesOf r)) p))
-one-ring-more e p (q ∷ rs) r =
-    let z : suc p + length rs ≡ p + suc (length rs) = omega arith in
-    ap (λ (l : List ℕ). replicate (count e (edgesOf q)) p ++ l) (one-ring-more e (suc p) rs r ∙ ap (λ (k : ℕ). usersFrom e (suc p) rs ++ replicate (count e (edgesOf r)) k) z)
-    ∙ sym (append-assoc (replicate (count e (edgesOf q)) p) (usersFrom e (suc p) rs) (replicate (count e (edgesOf r)) (p + suc (length rs))))
+one-polygon-more e n [] p = let z : n + 0 ≡ n = omega arith in rw z (append-nil (replicate (count e (all edgesOf (ringsOf p))) n))
+one-polygon-more e n (q ∷ ps) p =
+    let z : suc n + length ps ≡ n + suc (length ps) = omega arith in
+    ap (λ (l : List ℕ). replicate (count e (all edgesOf (ringsOf q))) n ++ l) (one-polygon-more e (suc n) ps p ∙ ap (λ (k : ℕ). usersFrom e (suc n) ps ++ replicate (count e (all edgesOf (ringsOf p))) k) z)
+    ∙ sym (append-assoc (replicate (count e (all edgesOf (ringsOf q))) n) (usersFrom e (suc n) ps) (replicate (count e (all edgesOf (ringsOf p))) (n + suc (length ps))))
 
-module _ (es st : List ℕ) (n : ℕ) (size : length es ≡ 1024) (b : Starts st n) where
-  words-users : (e m : ℕ) → m ≤ n → usersIn e (wordsTo es st m) ≡ usersOf e (rings es st m)
-  unfolding wordsTo rings tab usersOf usersFrom usersIn keep
-  words-users e zero h = refl
-  words-users e (suc m) h =
-      let w : getD st (m + 1) 0 ≤ 1024 = omega (arith, b .ordered (m + 1) n (omega arith) (le-refl n), b .inside) in
-      let f : m < 256 = omega (arith, b .few) in
-      let z : 0 + length (tab (ringAt es st) m) ≡ m = omega (arith, tab-length (ringAt es st) m) in
-      users-append e (wordsTo es st m) (ringWords es st m)
-      ∙ ap₂ (λ (x y : List ℕ). x ++ y) (words-users e m (omega arith)) (ring-users e es st m f w size)
-      ∙ ap (λ (k : ℕ). usersFrom e 0 (tab (ringAt es st) m) ++ replicate (count e (edgesOf (ringAt es st m))) k) (sym z)
-      ∙ sym (one-ring-more e 0 (tab (ringAt es st) m) (ringAt es st m))
+replicate-more : (a b p : ℕ) → replicate (a + b) p ≡ replicate a p ++ replicate b p
+replicate-more zero b p = let z : 0 + b ≡ b = omega arith in ap (λ (k : ℕ). replicate k p) z
+replicate-more (suc a) b p = let z : suc a + b ≡ suc (a + b) = omega arith in ap (λ (k : ℕ). replicate k p) z ∙ ap (λ (l : List ℕ). p ∷ l) (replicate-more a b p)
+
+words-suc : (es st : List ℕ) (of : ℕ → ℕ) (j : ℕ) → wordsTo es st of (suc j) ≡ wordsTo es st of j ++ ringWords es st (of j) j
+unfolding wordsTo
+words-suc es st of j = refl
+
+module _ (es st ft : List ℕ) (n : ℕ) (b : Layout es st ft n) (e : ℕ) where
+  abbrev of : ℕ → ℕ
+  of = ownerOf ft n
+
+  abbrev f : ℕ → List ℕ
+  f = ringAt es st
+
+  -- k rings from a on, all of polygon p
+  stretch-users : (p a k : ℕ) → a + k ≤ getD ft n 0 → ((r : ℕ) → a ≤ r → r < a + k → of r ≡ p) → usersIn e (wordsTo es st of (a + k)) ≡ usersIn e (wordsTo es st of a) ++ replicate (count e (all edgesOf (span f a k))) p
+  unfolding span all count tally
+  stretch-users p a zero h o = let z : a + 0 ≡ a = omega arith in rw z (sym (append-nil (usersIn e (wordsTo es st of a))))
+  stretch-users p a (suc k) h o =
+      ap (λ (j : ℕ). usersIn e (wordsTo es st of j)) next
+      ∙ (last (a + k)
+      ∙ (ap₂ (λ (x y : List ℕ). x ++ y) (stretch-users p a k (omega arith) (λ r g t. o r g (omega arith))) ring
+      ∙ (append-assoc (usersIn e (wordsTo es st of a)) (replicate (count e (all edgesOf (span f a k))) p) (replicate (count e (edgesOf (f (a + k)))) p)
+      ∙ ap (λ (l : List ℕ). usersIn e (wordsTo es st of a) ++ l) (sym (replicate-more (count e (all edgesOf (span f a k))) (count e (edgesOf (f (a + k)))) p) ∙ ap (λ (j : ℕ). replicate j p) (sym counts)))))
+    where
+      next : a + suc k ≡ suc (a + k)
+      next = omega arith
+
+      last : (j : ℕ) → usersIn e (wordsTo es st of (suc j)) ≡ usersIn e (wordsTo es st of j) ++ usersIn e (ringWords es st (of j) j)
+      last j = ap (usersIn e) (words-suc es st of j) ∙ users-append e (wordsTo es st of j) (ringWords es st (of j) j)
+
+      ring : usersIn e (ringWords es st (of (a + k)) (a + k)) ≡ replicate (count e (edgesOf (f (a + k)))) p
+      ring =
+          let w : getD st (a + k + 1) 0 ≤ 1024 = omega (arith, b .ordered (a + k + 1) (getD ft n 0) (omega arith) (le-refl (getD ft n 0)), b .inside) in
+          ring-users e es st (of (a + k)) (a + k) (owner-few es st ft n b (a + k) (omega arith)) w (b .entries-size) ∙ ap (replicate (count e (edgesOf (f (a + k))))) (o (a + k) (omega arith) (omega arith))
+
+      counts : count e (all edgesOf (span f a (suc k))) ≡ count e (all edgesOf (span f a k)) + count e (edgesOf (f (a + k)))
+      counts = ap (λ (l : List (List ℕ)). count e (all edgesOf l)) (ap (span f a) one-more ∙ span-append f a k 1) ∙ (ap (count e) (all-append edgesOf (span f a k) (f (a + k))) ∙ tally-append (eqb e) (all edgesOf (span f a k)) (edgesOf (f (a + k))))
+        where
+          one-more : suc k ≡ k + 1
+          one-more = omega arith
+
+  words-users : (m : ℕ) → m ≤ n → usersIn e (wordsTo es st of (getD ft m 0)) ≡ usersOf e (polygons es st ft m)
+  unfolding wordsTo polygons tab usersOf usersFrom usersIn keep
+  words-users zero h = ap (λ (k : ℕ). usersIn e (wordsTo es st of k)) (b .begin)
+  words-users (suc m) h =
+      ap (λ (k : ℕ). usersIn e (wordsTo es st of k)) (sym reach)
+      ∙ (stretch-users m from (to - from) (omega (arith, reach-le, up)) (λ r a t. owned es st ft n b m r h a (within r a t))
+      ∙ (ap₂ (λ (x y : List ℕ). x ++ y) (words-users m (omega arith)) (ap (λ (l : List (List ℕ)). replicate (count e (all edgesOf l)) m) (sym (rings-at es st ft n b m h)))
+      ∙ (ap (λ (k : ℕ). usersFrom e 0 (tab (polygonAt es st ft) m) ++ replicate (count e (all edgesOf (ringsOf (polygonAt es st ft m)))) k) (sym number)
+      ∙ sym (one-polygon-more e 0 (tab (polygonAt es st ft) m) (polygonAt es st ft m)))))
+    where
+      from : ℕ
+      from = getD ft m 0
+
+      to : ℕ
+      to = getD ft (m + 1) 0
+
+      up : from < to
+      up = b .rising m (m + 1) (omega arith) (omega arith)
+
+      reach-le : to ≤ getD ft n 0
+      reach-le = firsts-ordered es st ft n b (m + 1) n (omega arith) (le-refl n)
+
+      reach : from + (to - from) ≡ getD ft (suc m) 0
+      reach = sum from to up ∙ ap (λ (k : ℕ). getD ft k 0) (add-one m)
+        where
+          sum : (a b : ℕ) → a < b → a + (b - a) ≡ b
+          sum a b h = omega arith
+
+      within : (r : ℕ) → from ≤ r → r < from + (to - from) → r < to
+      within r a t = omega arith
+
+      number : 0 + length (tab (polygonAt es st ft) m) ≡ m
+      number = omega (arith, tab-length (polygonAt es st ft) m)
 
 -- ---- the words of one edge in order are in order of their polygons
 
@@ -149,55 +218,55 @@ tally-users : (t : ℕ → Bool) (e : ℕ) (l : List ℕ) → tally t (usersIn e
 unfolding usersIn
 tally-users t e l = tally-map t polyOf (keep (ofEdge e) l) ∙ tally-keep (ofEdge e) (λ w. t (polyOf w)) l
 
--- ---- the users of the rings are in order
+-- ---- the users of the polygons are in order
 
 pub in-replicate : (p k y : ℕ) → In y (replicate k p) → y ≡ p
 in-replicate p zero y i = absurd i
 in-replicate p (suc k) y (inl q) = q
 in-replicate p (suc k) y (inr i) = in-replicate p k y i
 
--- no user is below the first ring's
-pub users-above : (e p : ℕ) (rs : List (List ℕ)) (y : ℕ) → In y (usersFrom e p rs) → p ≤ y
+-- no user is below the first polygon's number
+pub users-above : (e n : ℕ) (ps : List Polygon) (y : ℕ) → In y (usersFrom e n ps) → n ≤ y
 unfolding usersFrom
-users-above e p [] y i = absurd i
-users-above e p (r ∷ rs) y i =
+users-above e n [] y i = absurd i
+users-above e n (p ∷ ps) y i =
     ⊎-elim
-    (λ (j : In y (replicate (count e (edgesOf r)) p)). omega (arith, in-replicate p (count e (edgesOf r)) y j))
-    (λ (j : In y (usersFrom e (suc p) rs)). omega (arith, users-above e (suc p) rs y j))
-    (in-either y (replicate (count e (edgesOf r)) p) (usersFrom e (suc p) rs) i)
+    (λ (j : In y (replicate (count e (all edgesOf (ringsOf p))) n)). omega (arith, in-replicate n (count e (all edgesOf (ringsOf p))) y j))
+    (λ (j : In y (usersFrom e (suc n) ps)). omega (arith, users-above e (suc n) ps y j))
+    (in-either y (replicate (count e (all edgesOf (ringsOf p))) n) (usersFrom e (suc n) ps) i)
 
 asc-front : (p k : ℕ) (l : List ℕ) → ((y : ℕ) → In y l → p ≤ y) → Asc l → Asc (replicate k p ++ l)
 asc-front p zero l h a = a
 asc-front p (suc k) l h a =
     (λ y i. ⊎-elim (λ (j : In y (replicate k p)). omega (arith, in-replicate p k y j)) (λ (j : In y l). h y j) (in-either y (replicate k p) l i), asc-front p k l h a)
 
-asc-from : (e p : ℕ) (rs : List (List ℕ)) → Asc (usersFrom e p rs)
+asc-from : (e n : ℕ) (ps : List Polygon) → Asc (usersFrom e n ps)
 unfolding usersFrom
-asc-from e p [] = tt
-asc-from e p (r ∷ rs) = asc-front p (count e (edgesOf r)) (usersFrom e (suc p) rs) (λ y i. omega (arith, users-above e (suc p) rs y i)) (asc-from e (suc p) rs)
+asc-from e n [] = tt
+asc-from e n (p ∷ ps) = asc-front n (count e (all edgesOf (ringsOf p))) (usersFrom e (suc n) ps) (λ y i. omega (arith, users-above e (suc n) ps y i)) (asc-from e (suc n) ps)
 
--- ---- so the sorted words tell the users of the rings
-module _ (es st : List ℕ) (n : ℕ) (size : length es ≡ 1024) (b : Starts st n) where
-  table-users : (e : ℕ) → usersIn e (ascending (wordsTo es st n)) ≡ usersOf e (rings es st n)
-  unfolding usersOf
-  table-users e =
-      let ws = wordsTo es st n in
-      asc-unique (usersIn e (ascending ws)) (usersFrom e 0 (rings es st n)) (asc-users e (ascending ws) (asc-ascending ws)) (asc-from e 0 (rings es st n))
-      (λ t. tally-users t e (ascending ws)
-      ∙ tally-ascending (both (ofEdge e) (λ w. t (polyOf w))) ws
-      ∙ sym (tally-users t e ws)
-      ∙ ap (tally t) (words-users es st n size b e n (le-refl n)))
+-- ---- so the sorted words tell the users of the polygons
+table-users : (es st ft : List ℕ) (n : ℕ) → Layout es st ft n → (e : ℕ) → usersIn e (ascending (wordsOf es st ft n)) ≡ usersOf e (polygons es st ft n)
+unfolding usersOf
+table-users es st ft n b e =
+    let ws = wordsOf es st ft n in
+    let ps = polygons es st ft n in
+    asc-unique (usersIn e (ascending ws)) (usersFrom e 0 ps) (asc-users e (ascending ws) (asc-ascending ws)) (asc-from e 0 ps)
+    (λ t. tally-users t e (ascending ws)
+    ∙ tally-ascending (both (ofEdge e) (λ w. t (polyOf w))) ws
+    ∙ sym (tally-users t e ws)
+    ∙ ap (tally t) (words-users es st ft n b e n (le-refl n)))
 
--- and of the present rings, of which any may have been turned since
-pub listed-users : (es st : List ℕ) (n : ℕ) (turned : List ℕ) (e : ℕ) → length es ≡ 1024 → Starts st n → usersIn e (ascending (wordsTo es st n)) ≡ usersOf e (turnedRings es st n turned)
-listed-users es st n turned e size b = table-users es st n size b e ∙ sym (users-turned (turned-rings es st n turned) e)
+-- and of the present polygons, of which any may have been turned since
+pub listed-users : (es st ft : List ℕ) (n : ℕ) (turned : List ℕ) (e : ℕ) → Layout es st ft n → usersIn e (ascending (wordsOf es st ft n)) ≡ usersOf e (turnedPolygons es st ft n turned)
+listed-users es st ft n turned e b = table-users es st ft n b e ∙ sym (users-turned (turned-polygons es st ft n turned) e)
 
--- what is told of the words' users is what the list of the present rings tells of the two points
-pub told-across : (es st : List ℕ) (n : ℕ) (turned : List ℕ) (a b count lowest second : ℕ) → length es ≡ 1024 → Starts st n → a < 65536 → b < 65536 → (a ≡ b → ⊥)
-    → Told (usersIn (edge a b) (ascending (wordsTo es st n))) count lowest second
-    → across a b (turnedRings es st n turned) ≡ record { number = edge a b; users = count; lowest = lowest; second = second }
+-- what is told of the words' users is what the list of the present polygons tells of the two points
+pub told-across : (es st ft : List ℕ) (n : ℕ) (turned : List ℕ) (a b count lowest second : ℕ) → Layout es st ft n → a < 65536 → b < 65536 → (a ≡ b → ⊥)
+    → Told (usersIn (edge a b) (ascending (wordsOf es st ft n))) count lowest second
+    → across a b (turnedPolygons es st ft n turned) ≡ record { number = edge a b; users = count; lowest = lowest; second = second }
 unfolding listed
-told-across es st n turned a b count lowest second size s h g d t =
-    across-is a b (turnedRings es st n turned) h g d
-    ∙ ap (listed (edge a b)) (sym (listed-users es st n turned (edge a b) size s))
+told-across es st ft n turned a b count lowest second s h g d t =
+    across-is a b (turnedPolygons es st ft n turned) h g d
+    ∙ ap (listed (edge a b)) (sym (listed-users es st ft n turned (edge a b) s))
     ∙ sym (λ i. record { number = edge a b; users = t .count-is i; lowest = t .lowest-is i; second = t .second-is i })
