@@ -1,0 +1,3 @@
+pub mod Holes
+pub mod held
+pub mod laws
