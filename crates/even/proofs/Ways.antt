@@ -19,7 +19,7 @@ use Rattle.normal.specs.Normal.{relative, normal}
 use Rattle.even.specs.Even.{square, squares, exceeds, isUneven, unevenAt}
 use Rattle.even.specs.laws.Quad.{quad-uneven}
 use Rattle.space.specs.held.Points.{pointsOf, placeAt, Coords, Known}
-use Rattle.even.specs.held.Offs.{largest, offAt, Within}
+use Rattle.even.specs.held.Offs.{largest, Listed, offAt, Within}
 use Rattle.space.specs.laws.Sizes.{point-at}
 use Rattle.even.specs.laws.Distance.{decides, settled, far}
 use Rattle.even.specs.laws.Least.{relative-length, relative-at, uneven-is, uneven-least}
@@ -54,14 +54,14 @@ stands i e = omega arith
 onward : (i : ℕ) {x y : ℕ} → x ≡ suc y → i + 1 + y ≡ i + x
 onward i e = omega arith
 
-module _ {flat : List ℤ} {ring : List ℕ} (h : Coords flat) (k : Known ring) (i : ℕ) (l : i < length ring) where
+module _ {flat : List ℤ} {ring : List ℕ} (h : Coords flat) (k : Listed ring) (i : ℕ) (l : i < length ring) where
   inside : i < length (ways (pointsOf flat) ring)
   inside = omega (arith, ways-length (pointsOf flat) ring)
 
   way : relativeTo (placeAt flat (getD ring 0 0)) (placeAt flat (getD ring i 0)) ≡ getD (ways (pointsOf flat) ring) i origin
   way = (λ j. relativeTo (sym (point-at h (getD ring 0 0) (k .each 0 (omega arith))) j) (sym (point-at h (getD ring i 0) (k .each i l)) j)) ∙ sym (ways-at (pointsOf flat) ring i l)
 
-module _ (tolerance : ℕ) (n : Point) {flat : List ℤ} {ring : List ℕ} (h : Coords flat) (k : Known ring) where
+module _ (tolerance : ℕ) (n : Point) {flat : List ℤ} {ring : List ℕ} (h : Coords flat) (k : Listed ring) where
   pub even-end : {i : ℕ} → Even tolerance n flat ring i → i ≡ length ring → i ≡ unevenAt tolerance n (places (pointsOf flat) ring)
   even-end {i} e z = stands i (index-end (far tolerance n) (ways (pointsOf flat) ring) i (z ∙ sym (ways-length (pointsOf flat) ring))) ∙ e .rest
 

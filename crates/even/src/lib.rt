@@ -11,7 +11,7 @@ ghost use mathlib.Core.Bool.{false};
 ghost use Rattle.ring.specs.Entries.{isUnclosed};
 ghost use Rattle.normal.specs.Normal.{normal};
 ghost use Rattle.even.specs.Even.{unevenAt, square, squares};
-ghost use Rattle.even.specs.held.Offs.{largest, Next};
+ghost use Rattle.even.specs.held.Offs.{largest, Listed, Next};
 ghost use lib.Dec.{leb, ltb};
 ghost use Rattle.wide.specs.Value.{value};
 
@@ -83,7 +83,7 @@ fn is_near(points: &[i32; 1536], n: Place, tolerance: u16, first: u16, p: u16) -
 // The first entry from i on that is off by more than a reach, or the ring's length.
 fn next_off(points: &[i32; 1536], ring: &[u16], n: Place, i: usize, reach: u64) -> usize
     requires { ⌜ Coords (now points) ⌝ }
-    requires { ⌜ Known (now ring) ⌝ }
+    requires { ⌜ Listed (now ring) ⌝ }
     requires { ⌜ (1 ≤ length (now ring)) × (i ≤ length (now ring)) ⌝ }
     requires { ⌜ Near 10160000000000 (asPoint n) ⌝ }
     ensures { λ r. ⌜ Next (now (points .entry)) (asPoint n) (now (ring .entry)) reach i r ⌝ }
@@ -103,7 +103,7 @@ fn next_off(points: &[i32; 1536], ring: &[u16], n: Place, i: usize, reach: u64) 
 // components", or the ring's length. The limit is made once, and not at all where every entry is within the reach.
 pub fn first_uneven(points: &[i32; 1536], ring: &[u16], tolerance: u16, n: Place) -> usize
     requires { ⌜ Coords (now points) ⌝ }
-    requires { ⌜ Known (now ring) ⌝ }
+    requires { ⌜ Listed (now ring) ⌝ }
     requires { ⌜ (1 ≤ length (now ring)) × (tolerance ≤ 1000) ⌝ }
     requires { ⌜ Near 10160000000000 (asPoint n) ⌝ }
     ensures { λ r. ⌜ r ≡ unevenAt tolerance (asPoint n) (places (pointsOf (now (points .entry))) (now (ring .entry))) ⌝ }

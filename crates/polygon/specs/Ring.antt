@@ -1,13 +1,14 @@
--- One polygon: check 01, and its finding, the first of checks 01 to 06 that fails, with its position.
+-- One ring: check 01, and what it shows, the first of checks 01 to 06 that fails, with its position.
 use Prim.Native.Nat.{ℕ}
 use mathlib.Core.Bool.{Bool}
-use mathlib.Core.List.{List, [], _∷_, map}
+use mathlib.Core.List.{List, [], _∷_, _++_, map}
+use mathlib.Core.Option.{Option}
 use lib.Dec.{ltb}
 use lib.ListN.{length}
 use Rattle.whole.specs.Lists.{given, first, steps}
 use Rattle.space.specs.declared.Axis.{Axis}
 use Rattle.polygon.specs.declared.Finding.{Finding}
-use Rattle.polygon.specs.declared.Finding.the-variants.{Sound, Short, Unclosed, Repeated, NoNormal, Crossed, Uneven}
+use Rattle.polygon.specs.declared.Finding.the-variants.{Sound, Short, Unclosed, Repeated, NoNormal, Crossed, Uneven, Shared, Misplaced}
 use Rattle.space.specs.Space.{Point, places}
 use Rattle.plane.specs.Plane.{largestAxis, dropAxis, Segment}
 use Rattle.even.specs.Even.{isUneven, unevenAt, even-computes}
@@ -25,6 +26,8 @@ findingNumber (Repeated i) = 3
 findingNumber NoNormal = 4
 findingNumber (Crossed i) = 5
 findingNumber (Uneven i) = 6
+findingNumber Shared = 14
+findingNumber Misplaced = 15
 
 -- document 02 (iii): "A polygon's finding shall carry a position: for 03 .. for 05 .. for 06 ..; else 0."
 unfoldable pub findingPosition : Finding → ℕ
@@ -35,6 +38,8 @@ findingPosition (Repeated i) = i
 findingPosition NoNormal = 0
 findingPosition (Crossed i) = i
 findingPosition (Uneven i) = i
+findingPosition Shared = 0
+findingPosition Misplaced = 0
 
 -- 01: "the ring has fewer than 4 entries"
 unfoldable pub isShort : List ℕ → Bool
@@ -44,21 +49,30 @@ isShort ring = ltb (length ring) 4
 unfoldable pub edgesIn : Axis → List Point → List Segment
 edgesIn axis ps = steps (map (dropAxis axis) ps)
 
--- "A polygon's finding is the first of checks 01 to 06 that fails.", with where it is met
-unfoldable pub finding : ℕ → List Point → List ℕ → Finding
-finding tolerance points ring =
+-- checks 01 to 05 of a ring in order, with where each is met
+unfoldable pub ringRows : List Point → List ℕ → List (Option Finding)
+ringRows points ring =
     let ps = places points ring in
     let n = normal ps in
     let es = edgesIn (largestAxis n) ps in
-    first Sound
-    (given (isShort ring) Short ∷
+    given (isShort ring) Short ∷
     given (isUnclosed ring) Unclosed ∷
     given (isRepeated ring) (Repeated (repeatedAt ring)) ∷
     given (isZero n) NoNormal ∷
     given (isCrossed es) (Crossed (crossedAt es)) ∷
-    given (isUneven tolerance n ps) (Uneven (unevenAt tolerance n ps)) ∷
-    [])
+    []
+
+-- the first of these that fails
+unfoldable pub ringFinding : List Point → List ℕ → Finding
+ringFinding points ring = first Sound (ringRows points ring)
+
+-- "A polygon's finding is the first of checks 01 to 06 that fails.", of a polygon of this one ring, with where it is met
+unfoldable pub finding : ℕ → List Point → List ℕ → Finding
+finding tolerance points ring =
+    let ps = places points ring in
+    let n = normal ps in
+    first Sound (ringRows points ring ++ given (isUneven tolerance n ps) (Uneven (unevenAt tolerance n ps)) ∷ [])
 
 unfoldable pub ring-computes : Unit {0}
-unfolding findingNumber findingPosition isShort edgesIn finding entries-compute normal-computes crossed-computes even-computes part-computes
+unfolding findingNumber findingPosition isShort edgesIn ringRows ringFinding finding entries-compute normal-computes crossed-computes even-computes part-computes
 ring-computes = tt

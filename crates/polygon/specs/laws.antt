@@ -6,6 +6,7 @@ pub mod Fan
 pub mod FromNormal
 pub mod Kept
 pub mod Position
+pub mod Rows
 pub mod Taken
 pub mod Triangle
 pub mod TurnFinding

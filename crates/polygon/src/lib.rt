@@ -1,16 +1,15 @@
 // One ring: its finding, the first of checks 01 to 06 that fails, with its position, and its part of the six-volume.
 
 mod columns;
+pub mod five;
 
 use space::Place;
 ghost use mathlib.Core.Path.{_≡_};
-ghost use Prim.Native.Nat.{_+_, _*_, _<_, _≤_};
-ghost use lib.ListN.{length};
+ghost use Prim.Native.Nat.{_≤_};
 ghost use Rattle.space.specs.Space.{places};
-ghost use Rattle.space.specs.held.Points.{pointsOf, Coords, Known, asPoint, Near};
-ghost use mathlib.Core.Bool.{true, false};
-ghost use Rattle.ring.specs.Entries.{isUnclosed};
-ghost use Rattle.normal.specs.Normal.{normal, isZero};
+ghost use Rattle.space.specs.held.Points.{pointsOf, Coords, Known, asPoint};
+ghost use mathlib.Core.Bool.{true};
+ghost use Rattle.normal.specs.Normal.{normal};
 ghost use Rattle.polygon.specs.Ring.{finding, findingNumber, findingPosition};
 ghost use Rattle.polygon.specs.held.Findings.{keptFinding};
 ghost use Rattle.polygon.specs.held.Position.{hasPosition};
@@ -26,6 +25,8 @@ pub enum Finding {
     NoNormal,
     Crossed(u16),
     Uneven(u16),
+    Shared,
+    Misplaced,
 }
 
 // What is told of a polygon alone: its finding as it is kept, and its part of the six-volume.
@@ -34,75 +35,7 @@ pub struct Look {
     pub part: i64,
 }
 
-// 04: "N is zero in all three components"
-fn is_zero(n: Place) -> bool
-    requires { ⌜ Near 10160000000000 (asPoint n) ⌝ }
-    ensures { λ r. ⌜ r ≡ isZero (asPoint n) ⌝ }
-{
-    let x = n.x;
-    let y = n.y;
-    let z = n.z;
-    (x == 0) & (y == 0) & (z == 0)
-}
-
-// A finding as it is kept: the number of its check, and above that hexadecimal digit where in the ring it is met.
-fn kept_at(number: u16, at: usize) -> u16
-    requires { ⌜ (number < 16) × (at < 4096) ⌝ }
-    ensures { λ r. ⌜ r ≡ 16 * at + number ⌝ }
-{
-    16 * (at as u16) + number
-}
-
-// The finding of a ring that passes 01 and 02, and whose normal is n.
-fn third_on(points: &[i32; 1536], ring: &[u16], tolerance: u16, n: Place) -> u16
-    requires { ⌜ Coords (now points) ⌝ }
-    requires { ⌜ Known (now ring) ⌝ }
-    requires { ⌜ (tolerance ≤ 1000) × (4 ≤ length (now ring)) × (isUnclosed (now ring) ≡ false) ⌝ }
-    requires { ⌜ asPoint n ≡ normal (places (pointsOf (now points)) (now ring)) ⌝ }
-    ensures { λ r. ⌜ r ≡ keptFinding (finding tolerance (pointsOf (now (points .entry))) (now (ring .entry))) ⌝ }
-{
-    let edges = ring.len() - 1;
-    let repeated = marks::first_repeated(ring);
-    if repeated < edges {
-        return kept_at(3, repeated);
-    }
-    if is_zero(n) {
-        return 4;
-    }
-    let crossed = columns::first_crossed(points, ring, axes::largest_axis(n));
-    if crossed < edges {
-        return kept_at(5, crossed);
-    }
-    let uneven = even::first_uneven(points, ring, tolerance, n);
-    if uneven < ring.len() {
-        return kept_at(6, uneven);
-    }
-    0
-}
-
-// The same, where places that fan out are told first: where N is not zero, they pass all but 06.
-fn fan_first(points: &[i32; 1536], ring: &[u16], tolerance: u16, n: Place) -> u16
-    requires { ⌜ Coords (now points) ⌝ }
-    requires { ⌜ Known (now ring) ⌝ }
-    requires { ⌜ (tolerance ≤ 1000) × (4 ≤ length (now ring)) × (isUnclosed (now ring) ≡ false) ⌝ }
-    requires { ⌜ asPoint n ≡ normal (places (pointsOf (now points)) (now ring)) ⌝ }
-    ensures { λ r. ⌜ r ≡ keptFinding (finding tolerance (pointsOf (now (points .entry))) (now (ring .entry))) ⌝ }
-{
-    if is_zero(n) {
-        return third_on(points, ring, tolerance, n);
-    }
-    if fan::is_fan(points, ring, axes::largest_axis(n)) {
-        let uneven = even::first_uneven_closed(points, ring, tolerance, n);
-        if uneven < ring.len() {
-            return kept_at(6, uneven);
-        }
-        return 0;
-    }
-    third_on(points, ring, tolerance, n)
-}
-
-// The finding of a ring whose normal is n: "the first of checks 01 to 06 that fails". Three corners whose normal is not zero
-// pass them all.
+// The finding of a ring whose normal is n: "the first of checks 01 to 06 that fails". Three corners are in one plane.
 fn first_failing(points: &[i32; 1536], ring: &[u16], tolerance: u16, n: Place) -> u16
     requires { ⌜ Coords (now points) ⌝ }
     requires { ⌜ Known (now ring) ⌝ }
@@ -110,18 +43,18 @@ fn first_failing(points: &[i32; 1536], ring: &[u16], tolerance: u16, n: Place) -
     requires { ⌜ asPoint n ≡ normal (places (pointsOf (now points)) (now ring)) ⌝ }
     ensures { λ r. ⌜ r ≡ keptFinding (finding tolerance (pointsOf (now (points .entry))) (now (ring .entry))) ⌝ }
 {
-    if ring.len() < 4 {
-        return 1;
-    }
-    if !ring::is_closed(ring) {
-        return 2;
+    let kept = five::first_of_five(points, ring, n);
+    if kept != 0 {
+        return kept;
     }
     if ring.len() == 4 {
-        if !is_zero(n) {
-            return 0;
-        }
+        return 0;
     }
-    fan_first(points, ring, tolerance, n)
+    let uneven = even::first_uneven_closed(points, ring, tolerance, n);
+    if uneven < ring.len() {
+        return five::kept_at(6, uneven);
+    }
+    0
 }
 
 // Where in a ring the finding is met whose number is known: of 03, 05 and 06 only that one is looked for.
@@ -142,7 +75,7 @@ pub fn position_of(points: &[i32; 1536], ring: &[u16], tolerance: u16, number: u
     even::first_uneven(points, ring, tolerance, n)
 }
 
-// A polygon's finding and its part: the normal serves both, the part being first·N.
+// A polygon's finding and its part, where it has one ring: the normal serves both.
 pub fn look_at(points: &[i32; 1536], ring: &[u16], tolerance: u16) -> Look
     requires { ⌜ Coords (now points) ⌝ }
     requires { ⌜ Known (now ring) ⌝ }
@@ -154,8 +87,7 @@ pub fn look_at(points: &[i32; 1536], ring: &[u16], tolerance: u16) -> Look
         return Look { kept: 1, part: 0 };
     }
     let n = normal::normal_of(points, ring);
-    let first = ring[0];
-    let part = space::dot(n, space::place_of(points, first));
+    let part = five::part_of(points, ring, n);
     let kept = first_failing(points, ring, tolerance, n);
     Look { kept, part }
 }

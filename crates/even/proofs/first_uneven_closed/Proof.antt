@@ -32,7 +32,7 @@ returns c =
 first-uneven-requires : tie.Need-first-uneven-requires
 first-uneven-requires c κs =
     let h = c .before .before .pre in
-    (h .0, (h .1 .0, ((h .1 .1 .0 .0, h .1 .1 .0 .2), near-same (h .1 .1 .1) (normal-near (h .0) (h .1 .0)))))
+    (h .0, (record { each = h .1 .0 .each }, ((h .1 .1 .0 .0, h .1 .1 .0 .2), near-same (h .1 .1 .1) (normal-near (h .0) (h .1 .0)))))
 
 returns-2 : tie.Need-returns-2
 returns-2 c = search needs

@@ -10,6 +10,10 @@ use Rattle.space.specs.held.Points.{placeAt}
 unfoldable pub largest : Point → ℕ
 largest n = max (natAbs (n .x)) (max (natAbs (n .y)) (natAbs (n .z)))
 
+-- entries each of which is the number of a point, however many they are
+pub record Listed (ring : List ℕ) : Type 0 where
+  pub each : (i : ℕ) → i < length ring → getD ring i 0 < 512
+
 -- the size of N·(p - first) for entry i
 abbrev pub offAt : List ℤ → Point → List ℕ → ℕ → ℕ
 offAt flat n ring i = natAbs (dot n (relativeTo (placeAt flat (getD ring 0 0)) (placeAt flat (getD ring i 0))))

@@ -1,79 +1,80 @@
--- `polygon::first_failing` meets its contract. A ring that passes 01 and 02 is told by the law of three corners, or from 03 on.
-use native.Mathlib.Omega.{arith}
+-- `polygon::first_failing` meets its contract. What 01 to 05 tell is the finding; where they tell nothing, 06 does.
 use mathlib.Core.Path.{_≡_, _∙_, sym, ap}
 use mathlib.Core.Bool.{false}
 use mathlib.Core.List.{List}
 use Prim.Native.Nat.{_≤_}
+use native.Mathlib.Omega.{arith}
 use lib.ListN.{length}
-use borrow.Author.Tests.{not-true}
 use borrow.Author.Needs.{needs}
-use Rattle.space.specs.laws.Sizes.{near-same}
-use Rattle.normal.specs.laws.Sizes.{normal-near}
-use Rattle.space.specs.held.Points.{pointsOf, Near, asPoint}
-use Rattle.ring.specs.Entries.{isUnclosed}
-use Rattle.normal.specs.Normal.{normal, isZero}
+use Rattle.space.specs.held.Points.{pointsOf}
 use Rattle.space.specs.Space.{Point, places}
-use Rattle.ring.specs.laws.Rings.{unclosed-is}
-use Rattle.polygon.proofs.Order.{found-short, found-unclosed, found-triangle}
+use Rattle.ring.specs.Entries.{isUnclosed}
+use Rattle.normal.specs.Normal.{normal}
+use Rattle.even.specs.Even.{unevenAt}
+use Rattle.polygon.specs.laws.Checks.{ring-closed}
+use Rattle.polygon.specs.laws.Rows.{kept-sound}
+use Rattle.polygon.specs.laws.Triangle.{triangle-even}
+use Rattle.polygon.proofs.Order.{found-early, found-uneven, found-sound, even-is}
 use Rattle.polygon.proofs.first_failing.Statement.{statement}
 use Rattle.polygon.proofs.first_failing.Tie as tie
 
--- ---- the places of the ring, its points and its normal, from the start
+-- ---- the places of the ring and its points, from the start
 abbrev table : tie.Start → List Point
 table c = pointsOf (c .args .points .now)
 
 abbrev spots : tie.Start → List Point
 spots c = places (table c) (c .args .ring .now)
 
-near : (c : tie.Start) → Near 10160000000000 (asPoint (c .args .n))
-near c = near-same (c .pre .1 .1 .1) (normal-near (c .pre .0) (c .pre .1 .0))
-
 -- ---- what each check told
-long : (c : tie.Else1) → 4 ≤ length (c .before .before .args .ring .now)
-long c = omega (arith, c .if1 .left)
+closed : (c : tie.Else1) → let ring = c .before .before .before .args .ring .now in (4 ≤ length ring) × (isUnclosed ring ≡ false)
+closed c =
+    let s = c .before .before .before in
+    ring-closed (table s) (s .args .ring .now) (kept-sound _ (sym (c .before .first-of-five .ensures) ∙ c .if1 .left))
 
-closed : (c : tie.Else2) → isUnclosed (c .before .before .before .before .args .ring .now) ≡ false
-closed c = unclosed-is (c .before .is-closed .ensures) (c .if2 .left)
-
-some : (c : tie.Then4) → isZero (normal (spots (c .before .before .before .before .before .before .before))) ≡ false
-some c = ap isZero (sym (c .before .before .before .before .before .before .before .pre .1 .1 .1)) ∙ sym (c .before .is-zero .ensures) ∙ not-true _ (c .if4 .taken)
+uneven-is : (c : tie.After-first-uneven-closed) → let s = c .before .before .before .before .before in c .first-uneven-closed .result ≡ unevenAt (s .args .tolerance) (normal (spots s)) (spots s)
+uneven-is c = let s = c .before .before .before .before .before in c .first-uneven-closed .ensures ∙ ap (λ (n : Point). unevenAt (s .args .tolerance) n (spots s)) (s .pre .1 .1 .1)
 
 -- ---- the needs
-returns : tie.Need-returns
-returns c = let s = c .before .before in found-short (s .args .tolerance) (table s) (s .args .ring .now) (c .if1 .taken)
+first-of-five-requires : tie.Need-first-of-five-requires
+first-of-five-requires c κs = search needs
 
-is-closed-requires : tie.Need-is-closed-requires
-is-closed-requires c κs = search needs
+returns : tie.Need-returns
+returns c =
+    let s = c .before .before .before in
+    found-early (table s) (s .args .ring .now) (s .args .tolerance) (c .before .first-of-five .ensures) (c .if1 .taken)
 
 returns-2 : tie.Need-returns-2
 returns-2 c =
     let s = c .before .before .before .before in
-    found-unclosed (s .args .tolerance) (table s) (s .args .ring .now) (long (c .before .before)) (unclosed-is (c .before .is-closed .ensures) (c .if2 .taken))
+    found-sound (table s) (s .args .ring .now) (s .args .tolerance) (c .before .before .first-of-five .ensures) (c .before .if1 .left) (triangle-even (table s) (s .args .ring .now) (c .if2 .taken) (closed (c .before) .1) (s .args .tolerance))
 
-is-zero-requires : tie.Need-is-zero-requires
-is-zero-requires c κs = near (c .before .before .before .before .before)
+first-uneven-closed-requires : tie.Need-first-uneven-closed-requires
+first-uneven-closed-requires c κs =
+    let s = c .before .before .before .before in
+    let h = closed (c .before) in
+    (s .pre .0, (s .pre .1 .0, ((omega (arith, h .0), h .1, s .pre .1 .1 .0), s .pre .1 .1 .1)))
+
+kept-at-requires : tie.Need-kept-at-requires
+kept-at-requires c κs = search needs
 
 returns-3 : tie.Need-returns-3
 returns-3 c =
     let s = c .before .before .before .before .before .before .before in
-    found-triangle (s .args .tolerance) (table s) (s .args .ring .now) (long (c .before .before .before .before .before)) (closed (c .before .before .before)) (c .before .before .if3 .taken) (some c)
-
-fan-first-requires : tie.Need-fan-first-requires
-fan-first-requires c κs =
-    let h = c .before .before .before .before .before .pre in
-    (h .0, (h .1 .0, ((h .1 .1 .0, long (c .before .before .before), closed (c .before)), h .1 .1 .1)))
+    c .kept-at .ensures ∙ found-uneven (table s) (s .args .ring .now) (s .args .tolerance) (c .before .before .before .before .before .first-of-five .ensures) (c .before .before .before .before .if1 .left) (uneven-is (c .before .before)) (c .before .if3 .taken)
 
 returns-4 : tie.Need-returns-4
-returns-4 c = search needs
+returns-4 c =
+    let s = c .before .before .before .before .before .before in
+    found-sound (table s) (s .args .ring .now) (s .args .tolerance) (c .before .before .before .before .first-of-five .ensures) (c .before .before .before .if1 .left) (even-is (table s) (s .args .ring .now) (s .args .tolerance) (uneven-is (c .before)) (c .if3 .left))
 
 pub first-failing-spec : {M : Type 1} → statement M
 first-failing-spec =
     tie.close
     (tie.spec
+    first-of-five-requires
     returns
-    is-closed-requires
     returns-2
-    is-zero-requires
+    first-uneven-closed-requires
+    kept-at-requires
     returns-3
-    fan-first-requires
     returns-4)

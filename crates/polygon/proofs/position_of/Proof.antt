@@ -61,7 +61,7 @@ returns-2 c =
 first-uneven-requires : tie.Need-first-uneven-requires
 first-uneven-requires c κs =
     let s = c .before .before .before .before in
-    (s .pre .0, (s .pre .1 .0, ((some s, s .pre .1 .1 .0), near-same (c .before .normal .ensures) (normal-near (s .pre .0) (s .pre .1 .0)))))
+    (s .pre .0, (record { each = s .pre .1 .0 .each }, ((some s, s .pre .1 .1 .0), near-same (c .before .normal .ensures) (normal-near (s .pre .0) (s .pre .1 .0)))))
 
 returns-3 : tie.Need-returns-3
 returns-3 c =

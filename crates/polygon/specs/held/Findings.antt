@@ -1,9 +1,9 @@
 -- A finding as it is kept: one number for its check and its position.
 use Prim.Native.Nat.{ℕ, zero, suc, _+_, _*_}
-use mathlib.Core.Bool.{Bool, _||_}
+use mathlib.Core.Bool.{Bool, _||_, cond}
 use lib.Dec.{eqb}
 use Rattle.polygon.specs.declared.Finding.{Finding}
-use Rattle.polygon.specs.declared.Finding.the-variants.{Sound, Short, Unclosed, Repeated, NoNormal, Crossed, Uneven}
+use Rattle.polygon.specs.declared.Finding.the-variants.{Sound, Short, Unclosed, Repeated, NoNormal, Crossed, Uneven, Shared, Misplaced}
 use Rattle.polygon.specs.Ring.{findingNumber, findingPosition}
 
 -- the check's number in the lowest hexadecimal digit, the position above it
@@ -22,4 +22,4 @@ findingOf (suc (suc zero)) i = Unclosed
 findingOf (suc (suc (suc zero))) i = Repeated i
 findingOf (suc (suc (suc (suc zero)))) i = NoNormal
 findingOf (suc (suc (suc (suc (suc zero))))) i = Crossed i
-findingOf (suc (suc (suc (suc (suc (suc n)))))) i = Uneven i
+findingOf (suc (suc (suc (suc (suc (suc n)))))) i = cond (eqb n 8) Shared (cond (eqb n 9) Misplaced (Uneven i))

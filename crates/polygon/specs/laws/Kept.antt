@@ -11,10 +11,10 @@ use Rattle.whole.specs.Lists.{lists}
 use Rattle.whole.specs.All.{All, none, more}
 use Rattle.whole.specs.laws.Alls.{any-none}
 use Rattle.space.specs.Space.{Point, origin, places}
-use Rattle.polygon.specs.Ring.{finding}
+use Rattle.polygon.specs.Ring.{ringRows, finding}
 use Rattle.volume.specs.Part.{part}
 
-places-kept : (points : List Point) (n : ℕ) (p : Point) (ring : List ℕ) → All (λ (e : ℕ). eqb n e ≡ false) ring → places (set points n p) ring ≡ places points ring
+pub places-kept : (points : List Point) (n : ℕ) (p : Point) (ring : List ℕ) → All (λ (e : ℕ). eqb n e ≡ false) ring → places (set points n p) ring ≡ places points ring
 unfolding places
 places-kept points n p [] none = refl
 places-kept points n p (e ∷ ring) (more q a) =
@@ -26,7 +26,7 @@ module _ (points : List Point) (n : ℕ) (p : Point) (ring : List ℕ) (unlisted
   places-same = places-kept points n p ring (any-none (eqb n) ring unlisted)
 
   pub finding-kept : (tolerance : ℕ) → finding tolerance (set points n p) ring ≡ finding tolerance points ring
-  unfolding finding
+  unfolding ringRows finding
   finding-kept tolerance = rw places-same
 
   pub part-kept : part (set points n p) ring ≡ part points ring

@@ -2,9 +2,10 @@
 use Prim.Native.Nat.{ℕ, zero, suc, _+_, _-_, _≤_}
 use native.Mathlib.Omega.{arith}
 use mathlib.Core.Path.{_≡_, refl, sym, ap, _∙_, subst}
-use mathlib.Core.Bool.{Bool, true, false, true≢false}
+use mathlib.Core.Bool.{Bool, true, false, true≢false, cond}
 use mathlib.Core.List.{List, [], _∷_, map}
 use borrow.Author.Tests.{ltb-true, ltb-false}
+use lib.Dec.{eqb}
 use lib.ListN.{length, getD, length-map}
 use Rattle.whole.specs.Lists.{given, first}
 use Rattle.whole.specs.Least.{Least}
@@ -12,9 +13,8 @@ use Rattle.whole.specs.laws.Places.{steps-length}
 use Rattle.space.specs.Space.{Point, origin, places}
 use Rattle.plane.specs.Plane.{largestAxis, dropAxis, Segment}
 use Rattle.polygon.specs.declared.Finding.{Finding}
-use Rattle.polygon.specs.declared.Finding.the-variants.{Sound, Short, Unclosed, Repeated, NoNormal, Crossed, Uneven}
-use Rattle.polygon.specs.Ring.{isShort, edgesIn, finding, findingNumber, findingPosition}
-use Rattle.polygon.specs.Position.{Position}
+use Rattle.polygon.specs.declared.Finding.the-variants.{Sound, Short, Unclosed, Repeated, NoNormal, Crossed, Uneven, Shared, Misplaced}
+use Rattle.polygon.specs.Ring.{isShort, edgesIn, ringRows, finding, findingNumber, findingPosition}
 use Rattle.polygon.specs.held.Findings.{isPlaced}
 use Rattle.polygon.specs.held.Position.{hasPosition}
 use Rattle.ring.specs.Entries.{isUnclosed, isRepeated, repeatedAt}
@@ -28,6 +28,15 @@ use Rattle.even.specs.Even.{isUneven, unevenAt}
 use Rattle.even.specs.Position.{Off}
 use Rattle.even.specs.laws.Least.{uneven-is, uneven-least}
 
+-- ---- what the position of a ring's finding says
+-- "for 03 the least entry index whose number stood earlier, the closing entry aside; for 05 the least edge index, counted from 0, that
+-- has a forbidden meeting; for 06 the least failing entry index; else 0"
+pub record Position (tolerance : ℕ) (points : List Point) (ring : List ℕ) (f : Finding) : Type 0 where
+  pub of-03 : findingNumber f ≡ 3 → Least (Stood ring) (findingPosition f)
+  pub of-05 : findingNumber f ≡ 5 → Least (Meets (edgesIn (largestAxis (normal (places points ring))) (places points ring))) (findingPosition f)
+  pub of-06 : findingNumber f ≡ 6 → Least (Off tolerance (normal (places points ring)) (places points ring)) (findingPosition f)
+  pub of-others : (findingNumber f ≡ 3 → ⊥) → (findingNumber f ≡ 5 → ⊥) → (findingNumber f ≡ 6 → ⊥) → findingPosition f ≡ 0
+
 -- ---- which findings have a position
 -- its number tells whether a finding has one
 pub placed-is : (f : Finding) → isPlaced (findingNumber f) ≡ hasPosition f
@@ -39,13 +48,15 @@ placed-is (Repeated i) = refl
 placed-is NoNormal = refl
 placed-is (Crossed i) = refl
 placed-is (Uneven i) = refl
+placed-is Shared = refl
+placed-is Misplaced = refl
 
 -- the finding without a position of this number
 bare : ℕ → Finding
 bare zero = Sound
 bare (suc zero) = Short
 bare (suc (suc zero)) = Unclosed
-bare (suc (suc (suc n))) = NoNormal
+bare (suc (suc (suc n))) = cond (eqb n 1) NoNormal (cond (eqb n 11) Shared Misplaced)
 
 bare-is : (f : Finding) → hasPosition f ≡ false → bare (findingNumber f) ≡ f
 unfolding hasPosition bare findingNumber
@@ -56,6 +67,8 @@ bare-is (Repeated i) h = absurd (true≢false h)
 bare-is NoNormal h = refl
 bare-is (Crossed i) h = absurd (true≢false h)
 bare-is (Uneven i) h = absurd (true≢false h)
+bare-is Shared h = refl
+bare-is Misplaced h = refl
 
 -- a finding that has one and is neither of 03 nor of 05 is of 06
 sixth : (f : Finding) → hasPosition f ≡ true → (findingNumber f ≡ 3 → ⊥) → (findingNumber f ≡ 5 → ⊥) → findingNumber f ≡ 6
@@ -67,6 +80,8 @@ sixth (Repeated i) h a b = absurd (a refl)
 sixth NoNormal h a b = absurd (true≢false (sym h))
 sixth (Crossed i) h a b = absurd (b refl)
 sixth (Uneven i) h a b = refl
+sixth Shared h a b = absurd (true≢false (sym h))
+sixth Misplaced h a b = absurd (true≢false (sym h))
 
 -- where a finding has none, its number tells it
 pub number-same : (f g : Finding) → hasPosition f ≡ false → findingNumber f ≡ findingNumber g → f ≡ g
@@ -117,7 +132,7 @@ module _ (tolerance : ℕ) (points : List Point) (ring : List ℕ) where
       }
 
   met : Met (finding tolerance points ring)
-  unfolding finding first given findingNumber findingPosition hasPosition
+  unfolding finding ringRows first given findingNumber findingPosition hasPosition
   met = go (isShort ring) refl (isUnclosed ring) (isRepeated ring) refl (isZero n) (isCrossed es) refl (isUneven tolerance n ps) refl
     where
       at-03 : isShort ring ≡ false → isRepeated ring ≡ true → Met (Repeated (repeatedAt ring))

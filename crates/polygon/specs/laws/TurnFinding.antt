@@ -17,7 +17,7 @@ use Rattle.space.specs.declared.Axis.{Axis}
 use Rattle.polygon.specs.declared.Finding.{Finding}
 use Rattle.polygon.specs.declared.Finding.the-variants.{Sound, Short, Unclosed, Repeated, NoNormal, Crossed, Uneven}
 use Rattle.plane.specs.Plane.{largestAxis, Spot, dropAxis, Segment}
-use Rattle.polygon.specs.Ring.{isShort, edgesIn, finding, findingNumber}
+use Rattle.polygon.specs.Ring.{isShort, edgesIn, ringRows, ringFinding, finding, findingNumber}
 use Rattle.ring.specs.Entries.{isUnclosed, isRepeated, repeatedAt}
 use Rattle.normal.specs.Normal.{relative, normal, isZero}
 use Rattle.crossing.specs.Crossed.{forbidden, isCrossed, crossedAt}
@@ -31,14 +31,14 @@ use Rattle.polygon.specs.held.Position.{hasPosition}
 
 -- ---- the opposite way
 
-opposite : Point → Point
+unfoldable pub opposite : Point → Point
 opposite n = record { x = negℤ (n .x); y = negℤ (n .y); z = negℤ (n .z) }
 
 isZero-opposite : (n : Point) → isZero (opposite n) ≡ isZero n
 unfolding isZero opposite
 isZero-opposite n = rw (zero-neg (n .x), zero-neg (n .y), zero-neg (n .z))
 
-largestAxis-opposite : (n : Point) → largestAxis (opposite n) ≡ largestAxis n
+pub largestAxis-opposite : (n : Point) → largestAxis (opposite n) ≡ largestAxis n
 unfolding largestAxis opposite
 largestAxis-opposite n = rw (abs-neg (n .x), abs-neg (n .y), abs-neg (n .z))
 
@@ -56,6 +56,10 @@ dot-opposite n p = ap square (go (n .x) (n .y) (n .z) (p .x) (p .y) (p .z)) ∙ 
   where
     go : (a b c d e f : ℤ) → negℤ a *ℤ d +ℤ negℤ b *ℤ e +ℤ negℤ c *ℤ f ≡ negℤ (a *ℤ d +ℤ b *ℤ e +ℤ c *ℤ f)
     go = ring 6 (λ a b c d e f. ⊝ a ⊗ d ⊕ ⊝ b ⊗ e ⊕ ⊝ c ⊗ f ≔ ⊝ (a ⊗ d ⊕ b ⊗ e ⊕ c ⊗ f)) tt
+
+pub exceeds-opposite : (tolerance : ℕ) (n p : Point) → exceeds tolerance (opposite n) (dot (opposite n) p) ≡ exceeds tolerance n (dot n p)
+unfolding exceeds
+exceeds-opposite tolerance n p = λ i. ltZ (square (pos tolerance) *ℤ squares-opposite n i) (dot-opposite n p i)
 
 -- ---- sums of cross products, one component at a time
 
@@ -85,10 +89,10 @@ crosses-reverse ps =
 
 -- ---- a closed ring of points
 
-map-reverse : {A B : Type 0} (g : A → B) (l : List A) → map g (reverse l) ≡ reverse (map g l)
+pub map-reverse : {A B : Type 0} (g : A → B) (l : List A) → map g (reverse l) ≡ reverse (map g l)
 map-reverse g l = map-reverseAux g l []
 
-relative-first : (ps : List Point) → relative ps ≡ map (relativeTo (firstOf origin ps)) ps
+pub relative-first : (ps : List Point) → relative ps ≡ map (relativeTo (firstOf origin ps)) ps
 unfolding relative firstOf
 relative-first [] = refl
 relative-first (a ∷ l) = refl
@@ -106,11 +110,11 @@ module _ (a : Point) (l : List Point) (closed : lastOf a l ≡ a) where
   normal-turned = ap (λ (ps : List Point). crosses (steps ps)) relative-turned ∙ crosses-reverse (relative (a ∷ l))
 
   uneven-turned : (tolerance : ℕ) (n : Point) → isUneven tolerance (opposite n) (reverse (a ∷ l)) ≡ isUneven tolerance n (a ∷ l)
-  unfolding isUneven exceeds
+  unfolding isUneven
   uneven-turned tolerance n =
       ap (any (λ p. exceeds tolerance (opposite n) (dot (opposite n) p))) relative-turned
       ∙ any-reverse (λ p. exceeds tolerance (opposite n) (dot (opposite n) p)) (relative (a ∷ l))
-      ∙ ap (λ (t : Point → Bool). any t (relative (a ∷ l))) (λ i p. ltZ (square (pos tolerance) *ℤ squares-opposite n i) (dot-opposite n p i))
+      ∙ ap (λ (t : Point → Bool). any t (relative (a ∷ l))) (λ i p. exceeds-opposite tolerance n p i)
 
 -- ---- edges
 
@@ -158,7 +162,7 @@ rows s u r i n c j e k =
 
 finding-rows : (tolerance : ℕ) (points : List Point) (r : List ℕ) → let ps = places points r in let n = normal ps in let es = edgesIn (largestAxis n) ps in
     finding tolerance points r ≡ rows (isShort r) (isUnclosed r) (isRepeated r) (repeatedAt r) (isZero n) (isCrossed es) (crossedAt es) (isUneven tolerance n ps) (unevenAt tolerance n ps)
-unfolding finding rows
+unfolding finding ringRows rows
 finding-rows tolerance points r = refl
 
 -- its number, which the positions do not change
@@ -175,9 +179,26 @@ numbers-are false false false i false true j e k = refl
 numbers-are false false false i false false j true k = refl
 numbers-are false false false i false false j false k = refl
 
-number-rows : (tolerance : ℕ) (points : List Point) (r : List ℕ) → let ps = places points r in let n = normal ps in
-    findingNumber (finding tolerance points r) ≡ numbers (isShort r) (isUnclosed r) (isRepeated r) (isZero n) (isCrossed (edgesIn (largestAxis n) ps)) (isUneven tolerance n ps)
+-- the five tests of a ring, and one more
+abbrev tests : List Point → List ℕ → Bool → ℕ
+tests points r e = let ps = places points r in let n = normal ps in numbers (isShort r) (isUnclosed r) (isRepeated r) (isZero n) (isCrossed (edgesIn (largestAxis n) ps)) e
+
+number-rows : (tolerance : ℕ) (points : List Point) (r : List ℕ) → findingNumber (finding tolerance points r) ≡ tests points r (isUneven tolerance (normal (places points r)) (places points r))
 number-rows tolerance points r = ap findingNumber (finding-rows tolerance points r) ∙ numbers-are _ _ _ _ _ _ _ _ _
+
+-- by 01 to 05 alone there is none more
+five-are : (s u r : Bool) (i : ℕ) (n c : Bool) (j : ℕ) → findingNumber (first Sound (given s Short ∷ given u Unclosed ∷ given r (Repeated i) ∷ given n NoNormal ∷ given c (Crossed j) ∷ [])) ≡ numbers s u r n c false
+unfolding numbers first given findingNumber
+five-are true u r i n c j = refl
+five-are false true r i n c j = refl
+five-are false false true i n c j = refl
+five-are false false false i true c j = refl
+five-are false false false i false true j = refl
+five-are false false false i false false j = refl
+
+ring-number-rows : (points : List Point) (r : List ℕ) → findingNumber (ringFinding points r) ≡ tests points r false
+unfolding ringFinding ringRows
+ring-number-rows points r = five-are _ _ _ _ _ _ _
 
 -- what comes after 02 does not matter to an Unclosed ring
 numbers-unclosed : (s u r n c e : Bool) → u ≡ true → numbers s u r n c e ≡ cond s 1 2
@@ -185,8 +206,8 @@ unfolding numbers first given
 numbers-unclosed true u r n c e q = refl
 numbers-unclosed false u r n c e q = rw q
 
-number-unclosed : (tolerance : ℕ) (points : List Point) (r : List ℕ) → isUnclosed r ≡ true → findingNumber (finding tolerance points r) ≡ cond (isShort r) 1 2
-number-unclosed tolerance points r q = number-rows tolerance points r ∙ numbers-unclosed (isShort r) (isUnclosed r) _ _ _ _ q
+tests-unclosed : (points : List Point) (r : List ℕ) (e : Bool) → isUnclosed r ≡ true → tests points r e ≡ cond (isShort r) 1 2
+tests-unclosed points r e q = numbers-unclosed (isShort r) (isUnclosed r) _ _ _ e q
 
 short-turned : (r : List ℕ) → isShort (reverse r) ≡ isShort r
 unfolding isShort
@@ -194,17 +215,17 @@ short-turned r = ap (λ (n : ℕ). ltb n 4) (length-reverse r)
 
 -- a ring whose last entry is its first
 module _ (tolerance : ℕ) (points : List Point) (a : ℕ) (l : List ℕ) (closed : lastOf a l ≡ a) where
-  here : List Point
+  unfoldable pub here : List Point
   here = places points (a ∷ l)
 
-  turned-places : places points (reverse (a ∷ l)) ≡ reverse here
+  pub turned-places : places points (reverse (a ∷ l)) ≡ reverse here
   unfolding here places
   turned-places = map-reverse (λ n. getD points n origin) (a ∷ l)
 
-  closed-places : lastOf (getD points a origin) (map (λ n. getD points n origin) l) ≡ getD points a origin
+  pub closed-places : lastOf (getD points a origin) (map (λ n. getD points n origin) l) ≡ getD points a origin
   closed-places = last-map (λ n. getD points n origin) a l ∙ ap (λ (n : ℕ). getD points n origin) closed
 
-  turned-normal : normal (places points (reverse (a ∷ l))) ≡ opposite (normal here)
+  pub turned-normal : normal (places points (reverse (a ∷ l))) ≡ opposite (normal here)
   unfolding here places
   turned-normal = ap normal turned-places ∙ normal-turned (getD points a origin) (map (λ n. getD points n origin) l) closed-places
 
@@ -227,25 +248,43 @@ module _ (tolerance : ℕ) (points : List Point) (a : ℕ) (l : List ℕ) (close
   unfolding isRepeated
   turned-repeated = anyTwo-turned (λ x y. eqb x y) (λ x y. eqb-sym x y) a l closed
 
-  closed-turned : findingNumber (finding tolerance points (reverse (a ∷ l))) ≡ findingNumber (finding tolerance points (a ∷ l))
+  closed-turned : {e e' : Bool} → e' ≡ e → tests points (reverse (a ∷ l)) e' ≡ tests points (a ∷ l) e
   unfolding here
-  closed-turned =
-      number-rows tolerance points (reverse (a ∷ l))
-      ∙ (λ i. numbers (short-turned (a ∷ l) i) (unclosed-turned (a ∷ l) i) (turned-repeated i) (turned-zero i) (turned-crossed i) (turned-uneven i))
-      ∙ sym (number-rows tolerance points (a ∷ l))
+  closed-turned q = λ i. numbers (short-turned (a ∷ l) i) (unclosed-turned (a ∷ l) i) (turned-repeated i) (turned-zero i) (turned-crossed i) (q i)
+
+-- a ring that is not open comes back to its first entry
+pub comes-back : (a : ℕ) (l : List ℕ) → isUnclosed (a ∷ l) ≡ false → lastOf a l ≡ a
+unfolding isUnclosed
+comes-back a l e = sym (eqb-true a (lastOf a l) (not-false (eqb a (lastOf a l)) e))
+
+-- a sixth test matters to closed rings alone
+tests-turned : (points : List Point) (r : List ℕ) (e e' : Bool) → (isUnclosed r ≡ false → e' ≡ e) → tests points (reverse r) e' ≡ tests points r e
+unfolding isShort numbers first given
+tests-turned points [] e e' h = refl
+tests-turned points (a ∷ l) e e' h = go (isUnclosed (a ∷ l)) refl
+  where
+    go : (b : Bool) → isUnclosed (a ∷ l) ≡ b → tests points (reverse (a ∷ l)) e' ≡ tests points (a ∷ l) e
+    go true q =
+        tests-unclosed points (reverse (a ∷ l)) e' (unclosed-turned (a ∷ l) ∙ q)
+        ∙ ap (λ (s : Bool). cond s 1 2) (short-turned (a ∷ l))
+        ∙ sym (tests-unclosed points (a ∷ l) e q)
+    go false q = closed-turned 0 points a l (comes-back a l q) (h q)
 
 -- Turning never changes a finding's number.
 pub number-turned : (tolerance : ℕ) (points : List Point) (r : List ℕ) → findingNumber (finding tolerance points (reverse r)) ≡ findingNumber (finding tolerance points r)
-unfolding isUnclosed
-number-turned tolerance points [] = refl
-number-turned tolerance points (a ∷ l) = go (isUnclosed (a ∷ l)) refl
+unfolding here
+number-turned tolerance points r =
+    number-rows tolerance points (reverse r)
+    ∙ tests-turned points r _ _ (uneven-same r)
+    ∙ sym (number-rows tolerance points r)
   where
-    go : (b : Bool) → isUnclosed (a ∷ l) ≡ b → findingNumber (finding tolerance points (reverse (a ∷ l))) ≡ findingNumber (finding tolerance points (a ∷ l))
-    go true e =
-        number-unclosed tolerance points (reverse (a ∷ l)) (unclosed-turned (a ∷ l) ∙ e)
-        ∙ ap (λ (s : Bool). cond s 1 2) (short-turned (a ∷ l))
-        ∙ sym (number-unclosed tolerance points (a ∷ l) e)
-    go false e = closed-turned tolerance points a l (sym (eqb-true a (lastOf a l) (not-false (eqb a (lastOf a l)) e)))
+    uneven-same : (r : List ℕ) → isUnclosed r ≡ false → isUneven tolerance (normal (places points (reverse r))) (places points (reverse r)) ≡ isUneven tolerance (normal (places points r)) (places points r)
+    uneven-same [] q = refl
+    uneven-same (a ∷ l) q = turned-uneven tolerance points a l (comes-back a l q)
+
+-- nor by 01 to 05 alone
+pub ring-number-turned : (points : List Point) (r : List ℕ) → findingNumber (ringFinding points (reverse r)) ≡ findingNumber (ringFinding points r)
+ring-number-turned points r = ring-number-rows points (reverse r) ∙ tests-turned points r false false (λ q. refl) ∙ sym (ring-number-rows points r)
 
 -- nor a finding that has no position
 pub finding-turned : (tolerance : ℕ) (points : List Point) (r : List ℕ) → hasPosition (finding tolerance points r) ≡ false → finding tolerance points (reverse r) ≡ finding tolerance points r

@@ -1,5 +1,4 @@
--- `polygon::third_on` meets its contract. Each return is the row of the table whose test holds where no earlier one does.
-use native.Mathlib.Omega.{arith}
+-- `polygon::five::third_to_fifth` meets its contract. Each return is the row of the table whose test holds where no earlier one does.
 use mathlib.Core.Path.{_≡_, _∙_, sym, ap}
 use mathlib.Core.Bool.{false}
 use mathlib.Core.List.{List}
@@ -11,13 +10,12 @@ use Rattle.ring.specs.Entries.{isRepeated}
 use Rattle.normal.specs.Normal.{normal, isZero}
 use Rattle.polygon.specs.Ring.{edgesIn}
 use Rattle.crossing.specs.Crossed.{isCrossed, crossedAt}
-use Rattle.even.specs.Even.{unevenAt}
 use Rattle.plane.specs.Plane.{largestAxis}
 use Rattle.space.specs.Space.{Point, places}
 use Rattle.space.specs.declared.Axis.{Axis}
-use Rattle.polygon.proofs.Order.{found-repeated, found-no-normal, found-crossed, found-uneven, found-sound, single-is, uncrossed-is, even-is}
-use Rattle.polygon.proofs.third_on.Statement.{statement}
-use Rattle.polygon.proofs.third_on.Tie as tie
+use Rattle.polygon.proofs.Order.{found-repeated, found-no-normal, found-crossed, found-none, single-is, uncrossed-is}
+use Rattle.polygon.proofs.five.third_to_fifth.Statement.{statement}
+use Rattle.polygon.proofs.five.third_to_fifth.Tie as tie
 
 -- ---- the places of the ring, its points and its normal, from the start
 abbrev table : tie.Start → List Point
@@ -31,7 +29,7 @@ near c = near-same (c .pre .1 .1 .1) (normal-near (c .pre .0) (c .pre .1 .0))
 
 -- ---- what each check told
 single : (c : tie.Else1) → isRepeated (c .before .before .before .args .ring .now) ≡ false
-single c = let s = c .before .before .before in single-is (s .args .tolerance) (table s) (s .args .ring .now) (c .before .first-repeated .ensures) (c .if1 .left)
+single c = let s = c .before .before .before in single-is (table s) (s .args .ring .now) (c .before .first-repeated .ensures) (c .if1 .left)
 
 zero-is : (c : tie.After-is-zero) → isZero (normal (spots (c .before .before .before .before))) ≡ c .is-zero .result
 zero-is c = ap isZero (sym (c .before .before .before .before .pre .1 .1 .1)) ∙ sym (c .is-zero .ensures)
@@ -45,10 +43,7 @@ crossed-is c =
     c .first-crossed .ensures ∙ ap (λ (x : Axis). crossedAt (edgesIn x (spots s))) (c .before .largest-axis .ensures ∙ ap largestAxis (s .pre .1 .1 .1))
 
 uncrossed : (c : tie.Else3) → let s = spots (c .before .before .before .before .before .before .before .before) in isCrossed (edgesIn (largestAxis (normal s)) s) ≡ false
-uncrossed c = let s = c .before .before .before .before .before .before .before .before in uncrossed-is (s .args .tolerance) (table s) (s .args .ring .now) (crossed-is (c .before)) (c .if3 .left)
-
-uneven-is : (c : tie.After-first-uneven) → let s = c .before .before .before .before .before .before .before .before .before in c .first-uneven .result ≡ unevenAt (s .args .tolerance) (normal (spots s)) (spots s)
-uneven-is c = let s = c .before .before .before .before .before .before .before .before .before in c .first-uneven .ensures ∙ ap (λ (n : Point). unevenAt (s .args .tolerance) n (spots s)) (s .pre .1 .1 .1)
+uncrossed c = let s = c .before .before .before .before .before .before .before .before in uncrossed-is (table s) (s .args .ring .now) (crossed-is (c .before)) (c .if3 .left)
 
 -- ---- the needs
 sub-edges : tie.Need-sub-edges
@@ -64,7 +59,7 @@ returns : tie.Need-returns
 returns c =
     let s = c .before .before .before .before in
     let h = s .pre .1 .1 .0 in
-    c .kept-at .ensures ∙ found-repeated (s .args .tolerance) (table s) (s .args .ring .now) (h .1) (h .2) (c .before .before .first-repeated .ensures) (c .before .if1 .taken)
+    c .kept-at .ensures ∙ found-repeated (table s) (s .args .ring .now) (h .0) (h .1) (c .before .before .first-repeated .ensures) (c .before .if1 .taken)
 
 is-zero-requires : tie.Need-is-zero-requires
 is-zero-requires c κs = near (c .before .before .before)
@@ -73,7 +68,7 @@ returns-2 : tie.Need-returns-2
 returns-2 c =
     let s = c .before .before .before .before .before in
     let h = s .pre .1 .1 .0 in
-    found-no-normal (s .args .tolerance) (table s) (s .args .ring .now) (h .1) (h .2) (single (c .before .before)) (zero-is (c .before) ∙ c .if2 .taken)
+    found-no-normal (table s) (s .args .ring .now) (h .0) (h .1) (single (c .before .before)) (zero-is (c .before) ∙ c .if2 .taken)
 
 largest-axis-requires : tie.Need-largest-axis-requires
 largest-axis-requires c κs = near (c .before .before .before .before .before)
@@ -88,31 +83,16 @@ returns-3 : tie.Need-returns-3
 returns-3 c =
     let s = c .before .before .before .before .before .before .before .before .before in
     let h = s .pre .1 .1 .0 in
-    c .kept-at2 .ensures ∙ found-crossed (s .args .tolerance) (table s) (s .args .ring .now) (h .1) (h .2) (single (c .before .before .before .before .before .before)) (some (c .before .before .before .before)) (crossed-is (c .before .before)) (c .before .if3 .taken)
-
-first-uneven-requires : tie.Need-first-uneven-requires
-first-uneven-requires c κs =
-    let s = c .before .before .before .before .before .before .before .before in
-    let h = s .pre .1 .1 .0 in
-    (s .pre .0, (s .pre .1 .0, ((omega (arith, h .1), h .0), near s)))
-
-kept-at-requires-3 : tie.Need-kept-at-requires-3
-kept-at-requires-3 c κs = search needs
+    c .kept-at2 .ensures ∙ found-crossed (table s) (s .args .ring .now) (h .0) (h .1) (single (c .before .before .before .before .before .before)) (some (c .before .before .before .before)) (crossed-is (c .before .before)) (c .before .if3 .taken)
 
 returns-4 : tie.Need-returns-4
 returns-4 c =
-    let s = c .before .before .before .before .before .before .before .before .before .before .before in
+    let s = c .before .before .before .before .before .before .before .before in
     let h = s .pre .1 .1 .0 in
-    c .kept-at3 .ensures ∙ found-uneven (s .args .tolerance) (table s) (s .args .ring .now) (h .1) (h .2) (single (c .before .before .before .before .before .before .before .before)) (some (c .before .before .before .before .before .before)) (uncrossed (c .before .before .before)) (uneven-is (c .before .before)) (c .before .if4 .taken)
+    found-none (table s) (s .args .ring .now) (h .0) (h .1) (single (c .before .before .before .before .before)) (some (c .before .before .before)) (uncrossed c)
 
-returns-5 : tie.Need-returns-5
-returns-5 c =
-    let s = c .before .before .before .before .before .before .before .before .before .before in
-    let h = s .pre .1 .1 .0 in
-    found-sound (s .args .tolerance) (table s) (s .args .ring .now) (h .1) (h .2) (single (c .before .before .before .before .before .before .before)) (some (c .before .before .before .before .before)) (uncrossed (c .before .before)) (even-is (s .args .tolerance) (table s) (s .args .ring .now) (uneven-is (c .before)) (c .if4 .left))
-
-pub third-on-spec : {M : Type 1} → statement M
-third-on-spec =
+pub third-to-fifth-spec : {M : Type 1} → statement M
+third-to-fifth-spec =
     tie.close
     (tie.spec
     sub-edges
@@ -125,7 +105,4 @@ third-on-spec =
     first-crossed-requires
     kept-at-requires-2
     returns-3
-    first-uneven-requires
-    kept-at-requires-3
-    returns-4
-    returns-5)
+    returns-4)

@@ -1,11 +1,11 @@
--- `polygon::is_zero` meets its contract. A number is 0 exactly when its bits are.
+-- `polygon::five::is_zero` meets its contract. A number is 0 exactly when its bits are.
 use mathlib.Core.Bool.{_&&_}
 use mathlib.Core.Path.{ap₂}
 use Rattle.whole.specs.laws.Size.{small-fits}
 use Rattle.normal.specs.Normal.{isZero}
 use Rattle.plane.specs.laws.Sizing.{zero-test}
-use Rattle.polygon.proofs.is_zero.Statement.{statement}
-use Rattle.polygon.proofs.is_zero.Tie as tie
+use Rattle.polygon.proofs.five.is_zero.Statement.{statement}
+use Rattle.polygon.proofs.five.is_zero.Tie as tie
 
 returns : tie.Need-returns
 unfolding isZero

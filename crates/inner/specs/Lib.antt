@@ -1,0 +1,4 @@
+pub mod Finding
+pub mod Position
+pub mod held
+pub mod laws
