@@ -41,7 +41,8 @@ fn of_move(points: &[i32; 1536], d: Desk, number: u32, p: usize, x: i64, y: i64,
 pub fn move_point(
     points: &mut [i32; 1536],
     entries: &[u16; 1024],
-    starts: &[u16; 257],
+    starts: &[u16; 1025],
+    firsts: &[u16; 257],
     stamps: &mut [u32; 256],
     findings: &mut [u16; 256],
     parts: &mut [i64; 256],
@@ -55,8 +56,8 @@ pub fn move_point(
     y: i64,
     z: i64,
 ) -> Desk
-    requires { ⌜ (d .at + 33 ≤ length (now room)) × (Valid (arrays (now points) (now entries) (now starts) (now stamps) (now findings) (now parts) (now table) (now turned)) d) ⌝ }
-    ensures { λ r. ⌜ Did (does (service (arrays (now (points .entry)) (now (entries .entry)) (now (starts .entry)) (now (stamps .entry)) (now (findings .entry)) (now (parts .entry)) (now (table .entry)) (now (turned .entry))) d) (F.move number p x y z)) (now (room .entry)) (d .at) (arrays (now (points .exit)) (now (entries .entry)) (now (starts .entry)) (now (stamps .exit)) (now (findings .exit)) (now (parts .exit)) (now (table .entry)) (now (turned .entry))) (now (room .exit)) r ⌝ }
+    requires { ⌜ (d .at + 33 ≤ length (now room)) × (Valid (arrays (now points) (now entries) (now starts) (now firsts) (now stamps) (now findings) (now parts) (now table) (now turned)) d) ⌝ }
+    ensures { λ r. ⌜ Did (does (service (arrays (now (points .entry)) (now (entries .entry)) (now (starts .entry)) (now (firsts .entry)) (now (stamps .entry)) (now (findings .entry)) (now (parts .entry)) (now (table .entry)) (now (turned .entry))) d) (F.move number p x y z)) (now (room .entry)) (d .at) (arrays (now (points .exit)) (now (entries .entry)) (now (starts .entry)) (now (firsts .entry)) (now (stamps .exit)) (now (findings .exit)) (now (parts .exit)) (now (table .entry)) (now (turned .entry))) (now (room .exit)) r ⌝ }
 {
     let refusal = of_move(points, d, number, p, x, y, z);
     if desk::is_accepted(refusal) {
@@ -66,6 +67,7 @@ pub fn move_point(
             points,
             entries,
             starts,
+            firsts,
             stamps,
             findings,
             parts,
@@ -82,6 +84,7 @@ pub fn move_point(
             points,
             entries,
             starts,
+            firsts,
             findings,
             parts,
             table,

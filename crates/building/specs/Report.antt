@@ -8,8 +8,8 @@ use lib.IntN.{ℤ, pos}
 use lib.Signed.{leZ}
 use Rattle.whole.specs.Lists.{given, first, firstGiven, tally, numbered, sumOf}
 use Rattle.polygon.specs.declared.Finding.{Finding}
-use Rattle.polygon.specs.Ring.{finding, findingNumber, findingPosition}
-use Rattle.volume.specs.Part.{part}
+use Rattle.polygon.specs.Ring.{findingNumber, findingPosition}
+use Rattle.inner.specs.Finding.{finding, part}
 use Rattle.shell.specs.declared.Shape.{Shape}
 use Rattle.shell.specs.Shell.{shape, shapeNumber, shapeA, shapeB}
 use Rattle.building.specs.declared.Verdict.{Verdict}

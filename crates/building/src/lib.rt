@@ -28,11 +28,19 @@ pub struct Scalars {
 }
 
 // Ring n ends where the next one starts.
-pub fn close_ring(starts: &mut [u16; 257], n: usize, end: usize)
-    requires { ⌜ (length (now starts) ≡ 257) × ((n < 256) × (end ≤ 1024)) ⌝ }
+pub fn close_ring(starts: &mut [u16; 1025], n: usize, end: usize)
+    requires { ⌜ (length (now starts) ≡ 1025) × ((n < 1024) × (end ≤ 1024)) ⌝ }
     ensures { λ _. ⌜ now (starts .exit) ≡ set (now (starts .entry)) (n + 1) end ⌝ }
 {
     starts[n + 1] = end as u16;
+}
+
+// Polygon n ends where the next one's first ring stands.
+pub fn close_polygon(firsts: &mut [u16; 257], n: usize, end: usize)
+    requires { ⌜ (length (now firsts) ≡ 257) × ((n < 256) × (end ≤ 1024)) ⌝ }
+    ensures { λ _. ⌜ now (firsts .exit) ≡ set (now (firsts .entry)) (n + 1) end ⌝ }
+{
+    firsts[n + 1] = end as u16;
 }
 
 // Document 01's number of a finding.
@@ -47,6 +55,8 @@ pub fn finding_number(f: Finding) -> u8
         Finding::NoNormal => 4,
         Finding::Crossed(_) => 5,
         Finding::Uneven(_) => 6,
+        Finding::Shared => 14,
+        Finding::Misplaced => 15,
     }
 }
 
@@ -62,5 +72,7 @@ pub fn finding_position(f: Finding) -> u16
         Finding::NoNormal => 0,
         Finding::Crossed(i) => i,
         Finding::Uneven(i) => i,
+        Finding::Shared => 0,
+        Finding::Misplaced => 0,
     }
 }

@@ -15,20 +15,30 @@ ghost use Rattle.checks.specs.held.Writes.{checked, LoadWrites};
 fn check_rings(
     points: &[i32; 1536],
     entries: &[u16; 1024],
-    starts: &[u16; 257],
+    starts: &[u16; 1025],
+    firsts: &[u16; 257],
     findings: &mut [u16; 256],
     parts: &mut [i64; 256],
     s: Scalars,
 )
-    requires { ⌜ Loaded (now points) (now entries) (now starts) s ⌝ }
+    requires { ⌜ Loaded (now points) (now entries) (now starts) (now firsts) s ⌝ }
     requires { ⌜ (length (now findings) ≡ 256) × (length (now parts) ≡ 256) ⌝ }
-    ensures { λ _. ⌜ Checked (s .tolerance) (now (points .entry)) (now (entries .entry)) (now (starts .entry)) (s .polygons) (now (findings .entry)) (now (parts .entry)) (now (findings .exit)) (now (parts .exit)) ⌝ }
+    ensures { λ _. ⌜ Checked (s .tolerance) (now (points .entry)) (now (entries .entry)) (now (starts .entry)) (now (firsts .entry)) (s .polygons) (now (findings .entry)) (now (parts .entry)) (now (findings .exit)) (now (parts .exit)) ⌝ }
 {
     let polygons = s.polygons;
     let tolerance = s.tolerance;
     let mut i = 0;
     while i < polygons {
-        renew::refresh(points, entries, starts, findings, parts, tolerance, i);
+        renew::refresh(
+            points,
+            entries,
+            starts,
+            firsts,
+            findings,
+            parts,
+            tolerance,
+            i,
+        );
         i += 1;
     }
 }
@@ -109,7 +119,8 @@ fn held_shape(
 pub fn check_all(
     points: &[i32; 1536],
     entries: &[u16; 1024],
-    starts: &[u16; 257],
+    starts: &[u16; 1025],
+    firsts: &[u16; 257],
     stamps: &mut [u32; 256],
     findings: &mut [u16; 256],
     parts: &mut [i64; 256],
@@ -117,17 +128,17 @@ pub fn check_all(
     turned: &mut [u8; 256],
     s: Scalars,
 ) -> Scalars
-    requires { ⌜ Loaded (now points) (now entries) (now starts) s ⌝ }
-    requires { ⌜ Sizes (arrays (now points) (now entries) (now starts) (now stamps) (now findings) (now parts) (now table) (now turned)) ⌝ }
-    ensures { λ r. ⌜ Did (loaded (heldTables (now (points .entry)) (now (entries .entry)) (now (starts .entry)) s)) (arrays (now (points .entry)) (now (entries .entry)) (now (starts .entry)) (now (stamps .exit)) (now (findings .exit)) (now (parts .exit)) (now (table .exit)) (now (turned .exit))) r ⌝ }
-    ensures { λ r. ⌜ LoadWrites (arrays (now (points .entry)) (now (entries .entry)) (now (starts .entry)) (now (stamps .entry)) (now (findings .entry)) (now (parts .entry)) (now (table .entry)) (now (turned .entry))) s (now (stamps .exit)) (now (findings .exit)) (now (parts .exit)) (now (table .exit)) (now (turned .exit)) r ⌝ }
+    requires { ⌜ Loaded (now points) (now entries) (now starts) (now firsts) s ⌝ }
+    requires { ⌜ Sizes (arrays (now points) (now entries) (now starts) (now firsts) (now stamps) (now findings) (now parts) (now table) (now turned)) ⌝ }
+    ensures { λ r. ⌜ Did (loaded (heldTables (now (points .entry)) (now (entries .entry)) (now (starts .entry)) (now (firsts .entry)) s)) (arrays (now (points .entry)) (now (entries .entry)) (now (starts .entry)) (now (firsts .entry)) (now (stamps .exit)) (now (findings .exit)) (now (parts .exit)) (now (table .exit)) (now (turned .exit))) r ⌝ }
+    ensures { λ r. ⌜ LoadWrites (arrays (now (points .entry)) (now (entries .entry)) (now (starts .entry)) (now (firsts .entry)) (now (stamps .entry)) (now (findings .entry)) (now (parts .entry)) (now (table .entry)) (now (turned .entry))) s (now (stamps .exit)) (now (findings .exit)) (now (parts .exit)) (now (table .exit)) (now (turned .exit)) r ⌝ }
 {
-    check_rings(points, entries, starts, findings, parts, s);
+    check_rings(points, entries, starts, firsts, findings, parts, s);
     clear_stamps(stamps);
     clear_turned(turned);
     let n = s.polygons;
     let early = lowest_early(findings, n);
-    let kept = shell::built(entries, starts, n, table, n <= early);
+    let kept = shell::built(entries, starts, firsts, n, table, n <= early);
     let edges = kept.count;
     let fixed = kept.fixed;
     held_shape(table, turned, s, edges, fixed)

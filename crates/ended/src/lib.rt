@@ -24,7 +24,8 @@ fn of_end(d: Desk) -> Refusal
 pub fn end_load(
     points: &[i32; 1536],
     entries: &[u16; 1024],
-    starts: &[u16; 257],
+    starts: &[u16; 1025],
+    firsts: &[u16; 257],
     stamps: &mut [u32; 256],
     findings: &mut [u16; 256],
     parts: &mut [i64; 256],
@@ -33,8 +34,8 @@ pub fn end_load(
     room: &mut [u8],
     d: Desk,
 ) -> Desk
-    requires { ⌜ (d .at + 33 ≤ length (now room)) × (Valid (arrays (now points) (now entries) (now starts) (now stamps) (now findings) (now parts) (now table) (now turned)) d) ⌝ }
-    ensures { λ r. ⌜ Did (does (service (arrays (now (points .entry)) (now (entries .entry)) (now (starts .entry)) (now (stamps .entry)) (now (findings .entry)) (now (parts .entry)) (now (table .entry)) (now (turned .entry))) d) F.end-of-load) (now (room .entry)) (d .at) (arrays (now (points .entry)) (now (entries .entry)) (now (starts .entry)) (now (stamps .exit)) (now (findings .exit)) (now (parts .exit)) (now (table .exit)) (now (turned .exit))) (now (room .exit)) r ⌝ }
+    requires { ⌜ (d .at + 33 ≤ length (now room)) × (Valid (arrays (now points) (now entries) (now starts) (now firsts) (now stamps) (now findings) (now parts) (now table) (now turned)) d) ⌝ }
+    ensures { λ r. ⌜ Did (does (service (arrays (now (points .entry)) (now (entries .entry)) (now (starts .entry)) (now (firsts .entry)) (now (stamps .entry)) (now (findings .entry)) (now (parts .entry)) (now (table .entry)) (now (turned .entry))) d) F.end-of-load) (now (room .entry)) (d .at) (arrays (now (points .entry)) (now (entries .entry)) (now (starts .entry)) (now (firsts .entry)) (now (stamps .exit)) (now (findings .exit)) (now (parts .exit)) (now (table .exit)) (now (turned .exit))) (now (room .exit)) r ⌝ }
 {
     let refusal = of_end(d);
     if desk::is_accepted(refusal) {
@@ -44,6 +45,7 @@ pub fn end_load(
             points,
             entries,
             starts,
+            firsts,
             stamps,
             findings,
             parts,
@@ -55,6 +57,7 @@ pub fn end_load(
             points,
             entries,
             starts,
+            firsts,
             findings,
             parts,
             table,

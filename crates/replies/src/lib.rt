@@ -20,7 +20,8 @@ fn one(
     line: &[u8],
     points: &mut [i32; 1536],
     entries: &mut [u16; 1024],
-    starts: &mut [u16; 257],
+    starts: &mut [u16; 1025],
+    firsts: &mut [u16; 257],
     stamps: &mut [u32; 256],
     findings: &mut [u16; 256],
     parts: &mut [i64; 256],
@@ -29,18 +30,19 @@ fn one(
     room: &mut [u8],
     d: Desk,
 ) -> Desk
-    requires { ⌜ (d .at + 33 ≤ length (now room)) × (Valid (arrays (now points) (now entries) (now starts) (now stamps) (now findings) (now parts) (now table) (now turned)) d) ⌝ }
-    ensures { λ r. ⌜ Did (step (service (arrays (now (points .entry)) (now (entries .entry)) (now (starts .entry)) (now (stamps .entry)) (now (findings .entry)) (now (parts .entry)) (now (table .entry)) (now (turned .entry))) d) (now (line .entry))) (now (room .entry)) (d .at) (arrays (now (points .exit)) (now (entries .exit)) (now (starts .exit)) (now (stamps .exit)) (now (findings .exit)) (now (parts .exit)) (now (table .exit)) (now (turned .exit))) (now (room .exit)) r ⌝ }
+    requires { ⌜ (d .at + 33 ≤ length (now room)) × (Valid (arrays (now points) (now entries) (now starts) (now firsts) (now stamps) (now findings) (now parts) (now table) (now turned)) d) ⌝ }
+    ensures { λ r. ⌜ Did (step (service (arrays (now (points .entry)) (now (entries .entry)) (now (starts .entry)) (now (firsts .entry)) (now (stamps .entry)) (now (findings .entry)) (now (parts .entry)) (now (table .entry)) (now (turned .entry))) d) (now (line .entry))) (now (room .entry)) (d .at) (arrays (now (points .exit)) (now (entries .exit)) (now (starts .exit)) (now (firsts .exit)) (now (stamps .exit)) (now (findings .exit)) (now (parts .exit)) (now (table .exit)) (now (turned .exit))) (now (room .exit)) r ⌝ }
 {
     let f = frame::decode(line);
     match f {
         Fields::Begin(tolerance) => load::begin(table, room, d, tolerance),
         Fields::Point(x, y, z) => load::add_point(points, table, room, d, x, y, z),
-        Fields::Polygon(n) => rings::add_polygon(line, n, entries, starts, room, d),
+        Fields::Polygon(n) => rings::add_polygon(line, n, entries, starts, firsts, room, d),
         Fields::EndOfLoad => ended::end_load(
             points,
             entries,
             starts,
+            firsts,
             stamps,
             findings,
             parts,
@@ -55,6 +57,7 @@ fn one(
                 points,
                 entries,
                 starts,
+                firsts,
                 stamps,
                 findings,
                 parts,
@@ -75,6 +78,7 @@ fn one(
                 points,
                 entries,
                 starts,
+                firsts,
                 stamps,
                 findings,
                 parts,
@@ -107,7 +111,13 @@ fn fresh_entries() -> [u16; 1024]
     [0; 1024]
 }
 
-fn fresh_starts() -> [u16; 257]
+fn fresh_starts() -> [u16; 1025]
+    ensures { λ r. ⌜ (length r ≡ 1025) × (getD r 0 0 ≡ 0) ⌝ }
+{
+    [0; 1025]
+}
+
+fn fresh_firsts() -> [u16; 257]
     ensures { λ r. ⌜ (length r ≡ 257) × (getD r 0 0 ≡ 0) ⌝ }
 {
     [0; 257]
@@ -171,6 +181,7 @@ pub fn all(stream: &[u8], room: &mut [u8]) -> usize
     let mut points = fresh_points();
     let mut entries = fresh_entries();
     let mut starts = fresh_starts();
+    let mut firsts = fresh_firsts();
     let mut stamps = fresh_stamps();
     let mut findings = fresh_findings();
     let mut parts = fresh_parts();
@@ -185,6 +196,7 @@ pub fn all(stream: &[u8], room: &mut [u8]) -> usize
             &mut points,
             &mut entries,
             &mut starts,
+            &mut firsts,
             &mut stamps,
             &mut findings,
             &mut parts,

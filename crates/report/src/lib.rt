@@ -24,6 +24,8 @@ fn finding_from(kept: u16) -> Finding
         3 => Finding::Repeated(at),
         4 => Finding::NoNormal,
         5 => Finding::Crossed(at),
+        14 => Finding::Shared,
+        15 => Finding::Misplaced,
         _ => Finding::Uneven(at),
     }
 }
@@ -48,7 +50,8 @@ fn lowest_of(findings: &[u16; 256], n: usize) -> usize
 pub fn verdict_of(
     points: &[i32; 1536],
     entries: &[u16; 1024],
-    starts: &[u16; 257],
+    starts: &[u16; 1025],
+    firsts: &[u16; 257],
     findings: &[u16; 256],
     parts: &[i64; 256],
     table: &[u64; 1024],
@@ -57,10 +60,10 @@ pub fn verdict_of(
     faults: usize,
     volume: i64,
 ) -> Verdict
-    requires { ⌜ Loaded (now points) (now entries) (now starts) s ⌝ }
-    requires { ⌜ Kept (now points) (now entries) (now starts) (now findings) (now parts) (now table) (now turned) s ⌝ }
+    requires { ⌜ Loaded (now points) (now entries) (now starts) (now firsts) s ⌝ }
+    requires { ⌜ Kept (now points) (now entries) (now starts) (now firsts) (now findings) (now parts) (now table) (now turned) s ⌝ }
     requires { ⌜ (faults ≡ tally (ltb 0) (take (s .polygons) (now findings))) × (volume ≡ sumOf (λ z. z) (take (s .polygons) (now parts))) ⌝ }
-    ensures { λ r. ⌜ r ≡ verdict (heldTables (now (points .entry)) (now (entries .entry)) (now (starts .entry)) s) ⌝ }
+    ensures { λ r. ⌜ r ≡ verdict (heldTables (now (points .entry)) (now (entries .entry)) (now (starts .entry)) (now (firsts .entry)) s) ⌝ }
 {
     if faults != 0 {
         let n = s.polygons;

@@ -10,10 +10,9 @@ ghost use lib.ListN.{length, drop};
 ghost use lib.Seq.{sets};
 ghost use Rattle.frame.specs.Frame as F;
 ghost use Rattle.frame.specs.Frame.{numbers};
-ghost use Rattle.shell.specs.held.Held.{Starts};
 ghost use Rattle.building.specs.held.Holds.{Arrays};
 ghost use Rattle.desk.specs.held.Holds.{service, Valid, Did, does};
-ghost use Rattle.rings.specs.held.Rings.{withRings, PolygonLine, PolygonRow};
+ghost use Rattle.rings.specs.held.Rings.{withRings, Ends, PolygonLine, PolygonRow};
 ghost use lib.Dec.{leb};
 ghost use Rattle.whole.specs.Lists.{any};
 
@@ -34,9 +33,9 @@ fn names_absent(line: &[u8], n: usize, points: usize) -> bool
 }
 
 // Why a polygon more is refused.
-fn of_polygon(line: &[u8], n: usize, starts: &[u16; 257], d: Desk) -> Refusal
-    requires { ⌜ (PolygonLine (now line) n) × (Starts (now starts) (d .held .polygons)) ⌝ }
-    ensures { λ r. ⌜ PolygonRow (now (starts .entry)) d (numbers (drop 2 (now (line .entry)))) r ⌝ }
+fn of_polygon(line: &[u8], n: usize, starts: &[u16; 1025], firsts: &[u16; 257], d: Desk) -> Refusal
+    requires { ⌜ (PolygonLine (now line) n) × (Ends (now starts) (now firsts) (d .held .polygons)) ⌝ }
+    ensures { λ r. ⌜ PolygonRow (now (starts .entry)) (now (firsts .entry)) d (numbers (drop 2 (now (line .entry)))) r ⌝ }
 {
     let mode = d.mode;
     let held = d.held;
@@ -51,7 +50,8 @@ fn of_polygon(line: &[u8], n: usize, starts: &[u16; 257], d: Desk) -> Refusal
     if 256 <= polygons {
         return Refusal::Full;
     }
-    let used = starts[polygons] as usize;
+    let rings = firsts[polygons] as usize;
+    let used = starts[rings] as usize;
     if 1024 < used + n {
         return Refusal::Full;
     }
@@ -76,20 +76,23 @@ pub fn add_polygon(
     line: &[u8],
     n: usize,
     entries: &mut [u16; 1024],
-    starts: &mut [u16; 257],
+    starts: &mut [u16; 1025],
+    firsts: &mut [u16; 257],
     room: &mut [u8],
     d: Desk,
 ) -> Desk
-    requires { ⌜ (d .at + 33 ≤ length (now room)) × ((PolygonLine (now line) n) × ((length (now entries) ≡ 1024) × (Starts (now starts) (d .held .polygons)))) ⌝ }
-    ensures { λ r. ⌜ ((a : Arrays) → a .entries ≡ now (entries .entry) → a .starts ≡ now (starts .entry) → Valid a d → Did (does (service a d) (F.polygon (numbers (drop 2 (now (line .entry)))))) (now (room .entry)) (d .at) (withRings (now (entries .exit)) (now (starts .exit)) a) (now (room .exit)) r) ⌝ }
+    requires { ⌜ (d .at + 33 ≤ length (now room)) × ((PolygonLine (now line) n) × ((length (now entries) ≡ 1024) × (Ends (now starts) (now firsts) (d .held .polygons)))) ⌝ }
+    ensures { λ r. ⌜ ((a : Arrays) → a .entries ≡ now (entries .entry) → a .starts ≡ now (starts .entry) → a .firsts ≡ now (firsts .entry) → Valid a d → Did (does (service a d) (F.polygon (numbers (drop 2 (now (line .entry)))))) (now (room .entry)) (d .at) (withRings (now (entries .exit)) (now (starts .exit)) (now (firsts .exit)) a) (now (room .exit)) r) ⌝ }
 {
-    let refusal = of_polygon(line, n, starts, d);
+    let refusal = of_polygon(line, n, starts, firsts, d);
     if desk::is_accepted(refusal) {
         let s = d.held;
         let m = s.polygons;
-        let used = starts[m] as usize;
+        let rings = firsts[m] as usize;
+        let used = starts[rings] as usize;
         copy_ring(line, n, entries, used);
-        building::close_ring(starts, m, used + n);
+        building::close_ring(starts, rings, used + n);
+        building::close_polygon(firsts, m, rings + 1);
         let from = d.at;
         let at = answer::put_plain(room, from, 0);
         let held = Scalars {

@@ -16,17 +16,17 @@ use Rattle.frame.specs.Encode.{encode}
 use Rattle.lines.specs.Lines.{lines, ended, joined}
 use Rattle.answer.specs.Answer.{plain, reported, told}
 use Rattle.polygon.specs.declared.Finding.the-variants.{Sound}
-use Rattle.polygon.specs.Ring.{finding, findingNumber, findingPosition}
-use Rattle.polygon.specs.Position.{Position}
-use Rattle.polygon.specs.laws.Position.{position-is}
+use Rattle.polygon.specs.Ring.{findingNumber, findingPosition}
+use Rattle.ring.specs.Polygon.{Polygon, one, allRings}
+use Rattle.inner.specs.Finding.{finding, part}
+use Rattle.inner.specs.Position.{Position}
 use Rattle.space.specs.Space.{Point}
-use Rattle.volume.specs.Part.{part}
 use Rattle.shell.specs.declared.Shape.the-variants.{Few, Once, Often, Alike, Apart, Unlinked}
 use Rattle.users.specs.EdgeList.{Listed, edgeList}
 use Rattle.edges.specs.Edges.{smaller, larger, usedOnce, usedOften, usedAlike}
 use Rattle.shell.specs.Shell.{notReached, notLinked}
 use Rattle.building.specs.declared.Verdict.the-variants.{Accepted, Faulty, Unsound, Inward}
-use Rattle.building.specs.Tables.{Tables, Building, Polygon}
+use Rattle.building.specs.Tables.{Tables, Building}
 use Rattle.building.specs.Report.{report, verdict, checkNumber, elementA, elementB, isFault, findings, sixVolume}
 use Rattle.building.specs.Thirteen.{NoneOfThirteen}
 use Rattle.building.specs.laws.Thirteen.{accepted-none, none-accepted, zero-none, none-counted, named-polygon}
@@ -46,6 +46,7 @@ use Rattle.service.specs.laws.Short.{step-short}
 use Rattle.service.specs.laws.Entry.{answer-agrees, fresh-lines, fresh-answers, fresh-few, fresh-short, entry-bytes, entry-refused, entry-line}
 use Rattle.service.specs.laws.Strike.{left-of}
 use Rattle.building.specs.laws.Thirteen as T
+use Rattle.inner.specs.laws.Position as P
 use Rattle.answer.specs.Answer as Answer
 use Rattle.users.specs.EdgeList as EdgeList
 use Rattle.users.specs.laws.Turned.{turned-list}
@@ -93,8 +94,8 @@ unfolding reportOf report
 reports t = refl
 
 -- what a question answers
-pub tells : (n : ℕ) (b : Building) → let t = b .tables in let ring = getD (t .polygons) n [] in let f = finding (t .tolerance) (t .points) ring in
-    toldOf n b ≡ told (findingNumber f) (findingPosition f) (getD (b .stamps) n 0) (part (t .points) ring)
+pub tells : (n : ℕ) (b : Building) → let t = b .tables in let p = getD (t .polygons) n (one []) in let f = finding (t .tolerance) (t .points) p in
+    toldOf n b ≡ told (findingNumber f) (findingPosition f) (getD (b .stamps) n 0) (part (t .points) p)
 unfolding toldOf
 tells n b = refl
 
@@ -108,8 +109,8 @@ pub either-order : (st : State) (m n : ℕ) (l l′ : List ℕ) → decode l ≡
 either-order = either-step
 
 -- document 02 (iii): "A polygon's finding shall carry a position": what it says, by the number beside it
-pub position : (tolerance : ℕ) (points : List Point) (ring : Polygon) → Position tolerance points ring (finding tolerance points ring)
-position = position-is
+pub position : (tolerance : ℕ) (points : List Point) (p : Polygon) → Position tolerance points p (finding tolerance points p)
+position = P.position
 
 -- "a building is accepted exactly when none of the thirteen fails"
 pub accepted-only : (t : Tables) → verdict t ≡ Accepted → NoneOfThirteen t
@@ -127,36 +128,36 @@ unfolding checkNumber elementA elementB
 accepted-report t n = reports t ∙ (rw (accepted-always t n, none-counted t n))
 
 -- "otherwise the first failing one is reported with its element": the lowest polygon with a finding, with the first of 01 to 06 that fails
-pub lowest-polygon : (t : Tables) (done : List Polygon) (ring : Polygon) (rest : List Polygon) → t .polygons ≡ done ++ ring ∷ rest
-    → All (λ (r : Polygon). finding (t .tolerance) (t .points) r ≡ Sound) done → isFault (finding (t .tolerance) (t .points) ring) ≡ true
-    → verdict t ≡ Faulty (length done) (finding (t .tolerance) (t .points) ring)
+pub lowest-polygon : (t : Tables) (done : List Polygon) (p : Polygon) (rest : List Polygon) → t .polygons ≡ done ++ p ∷ rest
+    → All (λ (q : Polygon). finding (t .tolerance) (t .points) q ≡ Sound) done → isFault (finding (t .tolerance) (t .points) p) ≡ true
+    → verdict t ≡ Faulty (length done) (finding (t .tolerance) (t .points) p)
 lowest-polygon = named-polygon
 
 -- document 02 (iii): "Reports show the position as element b for these checks, in place of 0."
-pub position-reported : (t : Tables) (done : List Polygon) (ring : Polygon) (rest : List Polygon) → t .polygons ≡ done ++ ring ∷ rest
-    → All (λ (r : Polygon). finding (t .tolerance) (t .points) r ≡ Sound) done → isFault (finding (t .tolerance) (t .points) ring) ≡ true
-    → elementB (verdict t) ≡ findingPosition (finding (t .tolerance) (t .points) ring)
+pub position-reported : (t : Tables) (done : List Polygon) (p : Polygon) (rest : List Polygon) → t .polygons ≡ done ++ p ∷ rest
+    → All (λ (q : Polygon). finding (t .tolerance) (t .points) q ≡ Sound) done → isFault (finding (t .tolerance) (t .points) p) ≡ true
+    → elementB (verdict t) ≡ findingPosition (finding (t .tolerance) (t .points) p)
 unfolding elementB
-position-reported t done ring rest e a f = ap elementB (lowest-polygon t done ring rest e a f)
+position-reported t done p rest e a f = ap elementB (lowest-polygon t done p rest e a f)
 
 -- and where no polygon has a finding, each of 07 to 0D where none before it fails
-module _ (t : Tables) (each : All (λ (r : Polygon). finding (t .tolerance) (t .points) r ≡ Sound) (t .polygons)) where
+module _ (t : Tables) (each : All (λ (p : Polygon). finding (t .tolerance) (t .points) p ≡ Sound) (t .polygons)) where
   pub first-07 : ltb (length (t .polygons)) 4 ≡ true → verdict t ≡ Unsound (Few (length (t .polygons)))
   first-07 = T.named-07 t each (t .polygons) refl
 
   module _ (not-07 : ltb (length (t .polygons)) 4 ≡ false) where
-    pub first-08 : (e : ℕ) → usedOnce (t .polygons) ≡ some e → verdict t ≡ Unsound (Once (smaller e) (larger e))
+    pub first-08 : (e : ℕ) → usedOnce (allRings (t .polygons)) ≡ some e → verdict t ≡ Unsound (Once (smaller e) (larger e))
     first-08 = T.named-08 t each (t .polygons) refl not-07
 
-    module _ (not-08 : usedOnce (t .polygons) ≡ none) where
-      pub first-09 : (e : ℕ) → usedOften (t .polygons) ≡ some e → verdict t ≡ Unsound (Often (smaller e) (larger e))
+    module _ (not-08 : usedOnce (allRings (t .polygons)) ≡ none) where
+      pub first-09 : (e : ℕ) → usedOften (allRings (t .polygons)) ≡ some e → verdict t ≡ Unsound (Often (smaller e) (larger e))
       first-09 = T.named-09 t each (t .polygons) refl not-07 not-08
 
-      module _ (not-09 : usedOften (t .polygons) ≡ none) where
-        pub first-0A : (e : ℕ) → usedAlike (t .polygons) ≡ some e → verdict t ≡ Unsound (Alike (smaller e) (larger e))
+      module _ (not-09 : usedOften (allRings (t .polygons)) ≡ none) where
+        pub first-0A : (e : ℕ) → usedAlike (allRings (t .polygons)) ≡ some e → verdict t ≡ Unsound (Alike (smaller e) (larger e))
         first-0A = T.named-0A t each (t .polygons) refl not-07 not-08 not-09
 
-        module _ (not-0A : usedAlike (t .polygons) ≡ none) where
+        module _ (not-0A : usedAlike (allRings (t .polygons)) ≡ none) where
           pub first-0B : (p : ℕ) → notReached (t .polygons) ≡ some p → verdict t ≡ Unsound (Apart p)
           first-0B = T.named-0B t each (t .polygons) refl not-07 not-08 not-09 not-0A
 
@@ -206,7 +207,7 @@ module _ (before : List (List ℕ)) (end : List ℕ) (since : List (List ℕ)) (
   turn-alters-none = corrections-keep edgeList turned-list (loadedBy before) (correctionsOf before since)
 
   -- "Each polygon's stamp is the number of the last correction accepted in that span that turned it or moved a point its ring lists, zero if there was none."
-  pub stamp : (n : ℕ) → n < length (loadedBy before .polygons) → getD (buildingOf (held before end since) .stamps) n 0 ≡ stampOf (correctionsOf before since) n (getD (loadedBy before .polygons) n [])
+  pub stamp : (n : ℕ) → n < length (loadedBy before .polygons) → getD (buildingOf (held before end since) .stamps) n 0 ≡ stampOf (correctionsOf before since) n (getD (loadedBy before .polygons) n (one []))
   stamp = stamp-is before end since s
 
   -- "In that span a correction numbered no higher than the last one accepted in it is refused"
@@ -268,7 +269,7 @@ module _ (stream room : List ℕ) (code : ℤ) (room′ : List ℕ) (returned : 
 
       -- an accepted question with the finding, its position and the part of the corrected tables, and the stamp that the span's corrections give;
       pub code-question : (n : ℕ) → decode l ≡ question n → accepts (held before end since) l ≡ true
-          → Stands (before ++ end ∷ since) (toldIn (correctedBy before since) n (stampOf (correctionsOf before since) n (getD (loadedBy before .polygons) n []))) room′
+          → Stands (before ++ end ∷ since) (toldIn (correctedBy before since) n (stampOf (correctionsOf before since) n (getD (loadedBy before .polygons) n (one [])))) room′
       code-question n d t = subst (λ (q : List ℕ). Stands (before ++ end ∷ since) q room′) (question-told before end since s l n d t) here
 
       -- an accepted 0C with what the list of edges of the corrected tables tells;

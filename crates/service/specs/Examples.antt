@@ -11,8 +11,11 @@ use Rattle.answer.specs.Answer.{answer-computes}
 use Rattle.polygon.specs.declared.Finding.{Finding}
 use Rattle.polygon.specs.declared.Finding.the-variants.{Sound, Short, Unclosed, Repeated, NoNormal, Crossed, Uneven}
 use Rattle.space.specs.Space.{Point, space-computes}
-use Rattle.polygon.specs.Ring.{finding, ring-computes}
-use Rattle.volume.specs.Part.{part}
+use Rattle.ring.specs.Polygon.{Polygon, one, turnedOver, polygon-computes}
+use Rattle.polygon.specs.Ring.{ring-computes}
+use Rattle.rays.specs.Inside.{inside-computes}
+use Rattle.holes.specs.Holes.{holes-compute}
+use Rattle.inner.specs.Finding.{finding, part, inner-computes}
 use Rattle.plane.specs.Plane.{plane-computes}
 use Rattle.shell.specs.declared.Shape.the-variants.{Few}
 use Rattle.edges.specs.Edges.{edges-compute}
@@ -22,14 +25,14 @@ use Rattle.shell.specs.Shell.{shell-computes}
 use Rattle.places.specs.Points.{points-compute}
 use Rattle.building.specs.declared.Verdict.{Verdict}
 use Rattle.building.specs.declared.Verdict.the-variants.{Accepted, Faulty, Unsound, Inward}
-use Rattle.building.specs.Tables.{Tables, Polygon, tables-compute}
+use Rattle.building.specs.Tables.{Tables, tables-compute}
 use Rattle.building.specs.Report.{Report, report, report-computes}
 use Rattle.service.specs.Service.{service-computes}
 use Rattle.service.specs.Stream.{stream-computes, answers}
 use Rattle.lines.specs.Lines as L
 
 unfoldable pub everything-computes : Unit {0}
-unfolding lists-compute bytes hex-computes L.lines-compute frame-computes answer-computes space-computes plane-computes ring-computes edges-compute edge-list-computes reach-computes shell-computes points-compute tables-compute report-computes service-computes stream-computes
+unfolding lists-compute bytes hex-computes L.lines-compute frame-computes answer-computes space-computes plane-computes polygon-computes ring-computes inside-computes holes-compute inner-computes edges-compute edge-list-computes reach-computes shell-computes points-compute tables-compute report-computes service-computes stream-computes
 everything-computes = tt
 
 -- "One stream in full": "Input to `framecheck`"
@@ -88,7 +91,7 @@ abbrev pub mm : ℕ → ℤ
 mm n = pos n
 
 -- a ring of the points 0 to 3, closed
-abbrev pub four : Polygon
+abbrev pub four : List ℕ
 four = 0 ∷ 1 ∷ 2 ∷ 3 ∷ 0 ∷ []
 
 -- "(0,0,0), (1000,0,0), (1000,1000,0), (0,1000,h)"
@@ -107,14 +110,14 @@ abbrev pub corners : List Point
 corners = place (mm 0) (mm 0) (mm 0) ∷ place (mm 1000) (mm 0) (mm 0) ∷ place (mm 0) (mm 1000) (mm 0) ∷ place (mm 0) (mm 0) (mm 1000) ∷ []
 
 abbrev pub three : List Polygon
-three = (0 ∷ 2 ∷ 1 ∷ 0 ∷ []) ∷ (0 ∷ 1 ∷ 3 ∷ 0 ∷ []) ∷ (0 ∷ 3 ∷ 2 ∷ 0 ∷ []) ∷ []
+three = one (0 ∷ 2 ∷ 1 ∷ 0 ∷ []) ∷ one (0 ∷ 1 ∷ 3 ∷ 0 ∷ []) ∷ one (0 ∷ 3 ∷ 2 ∷ 0 ∷ []) ∷ []
 
 -- "the tetrahedron above before its corrections"
 abbrev pub tetrahedron : List Polygon
-tetrahedron = three ++ ((1 ∷ 2 ∷ 3 ∷ 1 ∷ []) ∷ [])
+tetrahedron = three ++ (one (1 ∷ 2 ∷ 3 ∷ 1 ∷ []) ∷ [])
 
 abbrev pub built : List Polygon → Tables
-built rings = record { tolerance = 0; points = corners; polygons = rings }
+built ps = record { tolerance = 0; points = corners; polygons = ps }
 
 abbrev pub says : Verdict → ℤ → Report
 says v volume = record { check = v; faults = 0; volume = volume }
@@ -123,20 +126,20 @@ says v volume = record { check = v; faults = 0; volume = volume }
 abbrev pub uneven : List Point
 uneven = place (mm 0) (mm 0) (mm 0) ∷ place (mm 1) (mm 0) (mm 5) ∷ place (mm 1) (mm 1) (mm 7) ∷ place (mm 5) (mm 9) (mm 1) ∷ []
 
-abbrev pub unclosed : Polygon
+abbrev pub unclosed : List ℕ
 unclosed = 1 ∷ 2 ∷ 3 ∷ 0 ∷ []
 
--- an example: a ring's finding, a ring's part, or a building's report
+-- an example: the finding or the part of a polygon of one ring, or a building's report
 pub data Example : Type 0 where
-  ring : ℕ → List Point → Polygon → Finding → Example
-  parted : List Point → Polygon → ℤ → Example
+  ring : ℕ → List Point → List ℕ → Finding → Example
+  parted : List Point → List ℕ → ℤ → Example
   building : List Polygon → Report → Example
 
 -- what an example claims
 abbrev pub Claim : Example → Type 0
-Claim (ring tolerance points r f) = finding tolerance points r ≡ f
-Claim (parted points r z) = part points r ≡ z
-Claim (building rings r) = report (built rings) ≡ r
+Claim (ring tolerance points r f) = finding tolerance points (one r) ≡ f
+Claim (parted points r z) = part points (one r) ≡ z
+Claim (building ps r) = report (built ps) ≡ r
 
 -- all of a list of claims
 abbrev pub All : List Example → Type 0
@@ -158,10 +161,10 @@ examples =
     ring 0 corners (0 ∷ 1 ∷ 0 ∷ []) Short ∷
     ring 0 corners (0 ∷ 1 ∷ 2 ∷ 3 ∷ []) Unclosed ∷
     building tetrahedron (says Accepted (pos 1000000000)) ∷
-    building (map reverse tetrahedron) (says Inward (negsuc 999999999)) ∷
+    building (map turnedOver tetrahedron) (says Inward (negsuc 999999999)) ∷
     building three (says (Unsound (Few 3)) (pos 0)) ∷
     building [] (says (Unsound (Few 0)) (pos 0)) ∷
-    building ((0 ∷ 1 ∷ 2 ∷ 1 ∷ 0 ∷ []) ∷ []) (record { check = Faulty 0 (Repeated 3); faults = 1; volume = pos 0 }) ∷
+    building (one (0 ∷ 1 ∷ 2 ∷ 1 ∷ 0 ∷ []) ∷ []) (record { check = Faulty 0 (Repeated 3); faults = 1; volume = pos 0 }) ∷
     parted uneven unclosed (negsuc 41) ∷
     parted uneven (reverse unclosed) (pos 0) ∷
     []

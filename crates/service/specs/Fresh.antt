@@ -5,16 +5,17 @@ use Rattle.frame.specs.Frame.{begin, point, polygon, end-of-load}
 use Rattle.frame.specs.Encode.{encode}
 use Rattle.lines.specs.Lines.{joined}
 use Rattle.space.specs.Space.{Point}
-use Rattle.building.specs.Tables.{Tables, Polygon}
+use Rattle.ring.specs.Polygon.{Polygon}
+use Rattle.building.specs.Tables.{Tables}
 use Rattle.service.specs.Service.{nothing, step, State}
 use Rattle.service.specs.Stream.{after}
 
--- the line of a point, and of a polygon
+-- the line of a point, and of a polygon: each that is held has one ring
 unfoldable pub pointLine : Point → List ℕ
 pointLine p = encode (point (p .x) (p .y) (p .z))
 
 unfoldable pub polygonLine : Polygon → List ℕ
-polygonLine ring = encode (polygon ring)
+polygonLine p = encode (polygon (p .outer))
 
 -- begin, the points, the polygons; end of load comes last
 unfoldable pub loadLines : Tables → List (List ℕ)

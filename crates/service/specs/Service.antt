@@ -7,8 +7,9 @@ use lib.ListN.{length, getD}
 use Rattle.whole.specs.Lists.{given, first, any}
 use Rattle.frame.specs.Frame.{Frame, begin, point, polygon, end-of-load, move, turn, question, across, broken, decode}
 use Rattle.answer.specs.Answer.{plain, reported, told}
-use Rattle.polygon.specs.Ring.{finding, findingNumber, findingPosition}
-use Rattle.volume.specs.Part.{part}
+use Rattle.ring.specs.Polygon.{one}
+use Rattle.polygon.specs.Ring.{findingNumber, findingPosition}
+use Rattle.inner.specs.Finding.{finding, part}
 use Rattle.places.specs.Points.{isFar, stands, standsElse}
 use Rattle.building.specs.Tables.{Tables, Building, begun, withPoint, withPolygon, entries, loaded, moved, turned}
 use Rattle.building.specs.Report.{report, checkNumber, elementA, elementB}
@@ -183,9 +184,9 @@ reportOf t =
 unfoldable pub toldOf : ℕ → Building → List ℕ
 toldOf n b =
     let t = b .tables in
-    let ring = getD (t .polygons) n [] in
-    let f = finding (t .tolerance) (t .points) ring in
-    told (findingNumber f) (findingPosition f) (getD (b .stamps) n 0) (part (t .points) ring)
+    let p = getD (t .polygons) n (one []) in
+    let f = finding (t .tolerance) (t .points) p in
+    told (findingNumber f) (findingPosition f) (getD (b .stamps) n 0) (part (t .points) p)
 
 -- what the list of edges tells of two points, as it is answered
 unfoldable pub acrossOf : ℕ → ℕ → Tables → List ℕ

@@ -7,8 +7,9 @@ use lib.ListN.{getD}
 use lib.IntN.{ℤ}
 use Rattle.frame.specs.Frame.{Frame, begin, point, polygon, end-of-load, move, turn, question, across, broken, decode}
 use Rattle.answer.specs.Answer.{told}
-use Rattle.polygon.specs.Ring.{finding, findingNumber, findingPosition}
-use Rattle.volume.specs.Part.{part}
+use Rattle.ring.specs.Polygon.{one}
+use Rattle.polygon.specs.Ring.{findingNumber, findingPosition}
+use Rattle.inner.specs.Finding.{finding, part}
 use Rattle.building.specs.Corrections.{Correction, corrected}
 use Rattle.building.specs.Tables.{Tables, loaded}
 use Rattle.service.specs.Service.{State, step, accepts, nothing, holding, tablesOf}
@@ -93,9 +94,9 @@ pub data Numbered : Frame → ℕ → Type 0 where
 -- what is answered about polygon n of tables, with that stamp
 abbrev pub toldIn : Tables → ℕ → ℕ → List ℕ
 toldIn t n stamp =
-    let ring = getD (t .polygons) n [] in
-    let f = finding (t .tolerance) (t .points) ring in
-    told (findingNumber f) (findingPosition f) stamp (part (t .points) ring)
+    let p = getD (t .polygons) n (one []) in
+    let f = finding (t .tolerance) (t .points) p in
+    told (findingNumber f) (findingPosition f) stamp (part (t .points) p)
 
 -- two answers about a polygon that agree in its finding, the position and its part
 pub record SameButStamp (answer fresh : List ℕ) : Type 0 where

@@ -11,7 +11,8 @@ ghost use Rattle.service.specs.Service.{reportOf};
 pub fn put_report(
     points: &[i32; 1536],
     entries: &[u16; 1024],
-    starts: &[u16; 257],
+    starts: &[u16; 1025],
+    firsts: &[u16; 257],
     findings: &[u16; 256],
     parts: &[i64; 256],
     table: &[u64; 1024],
@@ -21,8 +22,8 @@ pub fn put_report(
     s: Scalars,
 ) -> usize
     requires { ⌜ from + 33 ≤ length (now room) ⌝ }
-    requires { ⌜ (Loaded (now points) (now entries) (now starts) s) × (Kept (now points) (now entries) (now starts) (now findings) (now parts) (now table) (now turned) s) ⌝ }
-    ensures { λ r. ⌜ Wrote (ended (reportOf (heldTables (now (points .entry)) (now (entries .entry)) (now (starts .entry)) s))) (now (room .entry)) from (now (room .exit)) r ⌝ }
+    requires { ⌜ (Loaded (now points) (now entries) (now starts) (now firsts) s) × (Kept (now points) (now entries) (now starts) (now firsts) (now findings) (now parts) (now table) (now turned) s) ⌝ }
+    ensures { λ r. ⌜ Wrote (ended (reportOf (heldTables (now (points .entry)) (now (entries .entry)) (now (starts .entry)) (now (firsts .entry)) s))) (now (room .entry)) from (now (room .exit)) r ⌝ }
 {
     let n = s.polygons;
     let faults = totals::faults_of(findings, n);
@@ -31,6 +32,7 @@ pub fn put_report(
         points,
         entries,
         starts,
+        firsts,
         findings,
         parts,
         table,

@@ -33,7 +33,8 @@ fn of_turn(d: Desk, number: u32, p: usize) -> Refusal
 pub fn turn_polygon(
     points: &[i32; 1536],
     entries: &mut [u16; 1024],
-    starts: &[u16; 257],
+    starts: &[u16; 1025],
+    firsts: &[u16; 257],
     stamps: &mut [u32; 256],
     findings: &mut [u16; 256],
     parts: &mut [i64; 256],
@@ -44,8 +45,8 @@ pub fn turn_polygon(
     number: u32,
     p: usize,
 ) -> Desk
-    requires { ⌜ (d .at + 33 ≤ length (now room)) × (Valid (arrays (now points) (now entries) (now starts) (now stamps) (now findings) (now parts) (now table) (now turned)) d) ⌝ }
-    ensures { λ r. ⌜ Did (does (service (arrays (now (points .entry)) (now (entries .entry)) (now (starts .entry)) (now (stamps .entry)) (now (findings .entry)) (now (parts .entry)) (now (table .entry)) (now (turned .entry))) d) (F.turn number p)) (now (room .entry)) (d .at) (arrays (now (points .entry)) (now (entries .exit)) (now (starts .entry)) (now (stamps .exit)) (now (findings .exit)) (now (parts .exit)) (now (table .entry)) (now (turned .exit))) (now (room .exit)) r ⌝ }
+    requires { ⌜ (d .at + 33 ≤ length (now room)) × (Valid (arrays (now points) (now entries) (now starts) (now firsts) (now stamps) (now findings) (now parts) (now table) (now turned)) d) ⌝ }
+    ensures { λ r. ⌜ Did (does (service (arrays (now (points .entry)) (now (entries .entry)) (now (starts .entry)) (now (firsts .entry)) (now (stamps .entry)) (now (findings .entry)) (now (parts .entry)) (now (table .entry)) (now (turned .entry))) d) (F.turn number p)) (now (room .entry)) (d .at) (arrays (now (points .entry)) (now (entries .exit)) (now (starts .entry)) (now (firsts .entry)) (now (stamps .exit)) (now (findings .exit)) (now (parts .exit)) (now (table .entry)) (now (turned .exit))) (now (room .exit)) r ⌝ }
 {
     let refusal = of_turn(d, number, p);
     if desk::is_accepted(refusal) {
@@ -55,6 +56,7 @@ pub fn turn_polygon(
             points,
             entries,
             starts,
+            firsts,
             stamps,
             findings,
             parts,
@@ -68,6 +70,7 @@ pub fn turn_polygon(
             points,
             entries,
             starts,
+            firsts,
             findings,
             parts,
             table,

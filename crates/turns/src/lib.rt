@@ -1,4 +1,5 @@
-// A polygon turned: its ring backwards in its place, its finding, its part, its stamp and its flag.
+// A polygon turned: its ring backwards in its place, its finding, its part, its stamp and its flag. Each polygon has one ring, that of
+// its own number.
 use building::Scalars;
 ghost use mathlib.Core.Path.{_≡_};
 ghost use mathlib.Core.List.{reverse};
@@ -9,10 +10,11 @@ ghost use lib.IntN.{pos};
 ghost use Rattle.volume.specs.Part.{part};
 ghost use Rattle.polygon.specs.Ring.{finding};
 ghost use Rattle.space.specs.held.Points.{pointsOf, Coords, Known};
-ghost use Rattle.shell.specs.held.Held.{ringAt};
+ghost use Rattle.ring.specs.held.Rings.{ringAt};
+ghost use Rattle.holes.specs.held.Rings.{Ring};
 ghost use Rattle.building.specs.Tables as Tables;
 ghost use Rattle.polygon.specs.held.Findings.{keptFinding, isPlaced};
-ghost use Rattle.building.specs.held.Rings.{cut, Ring};
+ghost use Rattle.building.specs.held.Rings.{cut};
 ghost use Rattle.building.specs.held.Holds.{arrays, heldBuilding, Held, Did};
 ghost use Rattle.turns.specs.held.Rings.{turnedEntries};
 ghost use Rattle.turns.specs.held.Writes.{TurnWrites};
@@ -51,13 +53,14 @@ fn turned_part(points: &[i32; 1536], ring: &[u16], before: i64) -> i64
 fn renew_part(
     points: &[i32; 1536],
     entries: &[u16; 1024],
-    starts: &[u16; 257],
+    starts: &[u16; 1025],
     parts: &mut [i64; 256],
     p: usize,
 )
     requires { ⌜ Coords (now points) ⌝ }
     requires { ⌜ Ring (now entries) (now starts) p ⌝ }
     requires { ⌜ (length (now parts) ≡ 256) × (getD (now parts) p (pos 0) ≡ part (pointsOf (now points)) (reverse (ringAt (now entries) (now starts) p))) ⌝ }
+    requires { ⌜ p < 256 ⌝ }
     ensures { λ _. ⌜ now (parts .exit) ≡ set (now (parts .entry)) p (part (pointsOf (now (points .entry))) (ringAt (now (entries .entry)) (now (starts .entry)) p)) ⌝ }
 {
     let from = starts[p] as usize;
@@ -80,7 +83,7 @@ fn has_position(kept: u16) -> bool
 fn renew_finding(
     points: &[i32; 1536],
     entries: &[u16; 1024],
-    starts: &[u16; 257],
+    starts: &[u16; 1025],
     findings: &mut [u16; 256],
     tolerance: u16,
     p: usize,
@@ -89,6 +92,7 @@ fn renew_finding(
     requires { ⌜ Ring (now entries) (now starts) p ⌝ }
     requires { ⌜ tolerance ≤ 1000 ⌝ }
     requires { ⌜ (length (now findings) ≡ 256) × (getD (now findings) p 0 ≡ keptFinding (finding tolerance (pointsOf (now points)) (reverse (ringAt (now entries) (now starts) p)))) ⌝ }
+    requires { ⌜ p < 256 ⌝ }
     ensures { λ _. ⌜ now (findings .exit) ≡ set (now (findings .entry)) p (keptFinding (finding tolerance (pointsOf (now (points .entry))) (ringAt (now (entries .entry)) (now (starts .entry)) p))) ⌝ }
 {
     let kept = findings[p];
@@ -107,7 +111,7 @@ fn renew_finding(
 fn turn_ring(
     points: &[i32; 1536],
     entries: &mut [u16; 1024],
-    starts: &[u16; 257],
+    starts: &[u16; 1025],
     findings: &mut [u16; 256],
     parts: &mut [i64; 256],
     tolerance: u16,
@@ -118,6 +122,7 @@ fn turn_ring(
     requires { ⌜ tolerance ≤ 1000 ⌝ }
     requires { ⌜ (length (now findings) ≡ 256) × (getD (now findings) p 0 ≡ keptFinding (finding tolerance (pointsOf (now points)) (ringAt (now entries) (now starts) p))) ⌝ }
     requires { ⌜ (length (now parts) ≡ 256) × (getD (now parts) p (pos 0) ≡ part (pointsOf (now points)) (ringAt (now entries) (now starts) p)) ⌝ }
+    requires { ⌜ p < 256 ⌝ }
     ensures { λ _. ⌜ now (entries .exit) ≡ turnedEntries (now (entries .entry)) (now (starts .entry)) p ⌝ }
     ensures { λ _. ⌜ now (findings .exit) ≡ set (now (findings .entry)) p (keptFinding (finding tolerance (pointsOf (now (points .entry))) (reverse (ringAt (now (entries .entry)) (now (starts .entry)) p)))) ⌝ }
     ensures { λ _. ⌜ now (parts .exit) ≡ set (now (parts .entry)) p (part (pointsOf (now (points .entry))) (reverse (ringAt (now (entries .entry)) (now (starts .entry)) p))) ⌝ }
@@ -133,7 +138,8 @@ fn turn_ring(
 pub fn turn_polygon(
     points: &[i32; 1536],
     entries: &mut [u16; 1024],
-    starts: &[u16; 257],
+    starts: &[u16; 1025],
+    firsts: &[u16; 257],
     stamps: &mut [u32; 256],
     findings: &mut [u16; 256],
     parts: &mut [i64; 256],
@@ -143,10 +149,10 @@ pub fn turn_polygon(
     number: u32,
     n: usize,
 ) -> Scalars
-    requires { ⌜ Held (arrays (now points) (now entries) (now starts) (now stamps) (now findings) (now parts) (now table) (now turned)) s ⌝ }
+    requires { ⌜ Held (arrays (now points) (now entries) (now starts) (now firsts) (now stamps) (now findings) (now parts) (now table) (now turned)) s ⌝ }
     requires { ⌜ n < s .polygons ⌝ }
-    ensures { λ r. ⌜ Did (Tables.turned number n (heldBuilding (arrays (now (points .entry)) (now (entries .entry)) (now (starts .entry)) (now (stamps .entry)) (now (findings .entry)) (now (parts .entry)) (now (table .entry)) (now (turned .entry))) s)) (arrays (now (points .entry)) (now (entries .exit)) (now (starts .entry)) (now (stamps .exit)) (now (findings .exit)) (now (parts .exit)) (now (table .entry)) (now (turned .exit))) r ⌝ }
-    ensures { λ r. ⌜ TurnWrites (arrays (now (points .entry)) (now (entries .entry)) (now (starts .entry)) (now (stamps .entry)) (now (findings .entry)) (now (parts .entry)) (now (table .entry)) (now (turned .entry))) s number n (now (entries .exit)) (now (stamps .exit)) (now (findings .exit)) (now (parts .exit)) (now (turned .exit)) r ⌝ }
+    ensures { λ r. ⌜ Did (Tables.turned number n (heldBuilding (arrays (now (points .entry)) (now (entries .entry)) (now (starts .entry)) (now (firsts .entry)) (now (stamps .entry)) (now (findings .entry)) (now (parts .entry)) (now (table .entry)) (now (turned .entry))) s)) (arrays (now (points .entry)) (now (entries .exit)) (now (starts .entry)) (now (firsts .entry)) (now (stamps .exit)) (now (findings .exit)) (now (parts .exit)) (now (table .entry)) (now (turned .exit))) r ⌝ }
+    ensures { λ r. ⌜ TurnWrites (arrays (now (points .entry)) (now (entries .entry)) (now (starts .entry)) (now (firsts .entry)) (now (stamps .entry)) (now (findings .entry)) (now (parts .entry)) (now (table .entry)) (now (turned .entry))) s number n (now (entries .exit)) (now (stamps .exit)) (now (findings .exit)) (now (parts .exit)) (now (turned .exit)) r ⌝ }
 {
     let tolerance = s.tolerance;
     turn_ring(points, entries, starts, findings, parts, tolerance, n);

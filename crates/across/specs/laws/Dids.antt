@@ -14,7 +14,7 @@ use Rattle.edges.specs.laws.Ascending.{asc-ascending}
 use Rattle.users.specs.EdgeList.{Listed}
 use Rattle.users.specs.held.Users.{usersIn, Told}
 use Rattle.users.specs.laws.Words.{told-across}
-use Rattle.building.specs.Tables.{Polygon}
+use Rattle.ring.specs.Polygon.{Polygon}
 use Rattle.building.specs.held.Holds.{Arrays, heldTables, heldBuilding}
 use Rattle.service.specs.declared.Refusal.{Refusal}
 use Rattle.service.specs.Service.{State, tablesOf, refusal, takes, acrossOf, answerTo, isAccepted}
@@ -41,9 +41,9 @@ module _ (a : Arrays) (d : Desk) (v : Valid a d) (m n : ℕ) (fit : Points d m n
   users-told =
       let k = valid-held a d v (fit .holding) .kept .listed in
       let few = v .loaded .entered .few in
-      let told = told-across (k .entries) (k .starts) (k .polygons) (a .turned) m n c l s (k .size) (k .begin) (omega (arith, fit .first)) (omega (arith, fit .second)) (fit .differ)
+      let told = told-across (k .entries) (k .starts) (k .firsts) (k .number) (a .turned) m n c l s (k .layout) (omega (arith, fit .first)) (omega (arith, fit .second)) (fit .differ)
       (subst (λ (w : List ℕ). Told (usersIn (edge m n) w) c l s) (k .words) t) in
-      ap (λ (e : Listed). Answer.across (e .users) (e .lowest) (e .second)) (sym (ap (λ (rs : List Polygon). EdgeList.across m n rs) (k .present) ∙ told))
+      ap (λ (e : Listed). Answer.across (e .users) (e .lowest) (e .second)) (sym (ap (λ (ps : List Polygon). EdgeList.across m n ps) (k .present) ∙ told))
 
   pub did-across : (r : Refusal) → r ≡ refusal (service a d) (across m n) → isAccepted r ≡ true → (room room′ : List ℕ) (at : ℕ) → Wrote (ended (Answer.across c l s)) room (d .at) room′ at
       → Did (does (service a d) (across m n)) room (d .at) a room′ (record { mode = d .mode; held = d .held; at = at })

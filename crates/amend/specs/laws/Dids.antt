@@ -48,7 +48,7 @@ module _ (a : Arrays) (d : Desk) (v : Valid a d) (number p : ℕ) (x y z : ℤ) 
       omega (arith, leb-false (length (tables a d .points)) p k, tables-points (v .loaded))
 
   pub did-move : (q : Point) → q ≡ point3 x y z → (a′ : Arrays) (s : Scalars) → B.Did (moved number p q (heldBuilding a (d .held))) a′ s
-      → (room room′ : List ℕ) (at : ℕ) → Wrote (ended (reportOf (heldTables (a′ .points) (a′ .entries) (a′ .starts) s))) room (d .at) room′ at
+      → (room room′ : List ℕ) (at : ℕ) → Wrote (ended (reportOf (heldTables (a′ .points) (a′ .entries) (a′ .starts) (a′ .firsts) s))) room (d .at) room′ at
       → Did (does (service a d) (move number p x y z)) room (d .at) a′ room′ (record { mode = Holding; held = s; at = at })
   unfolding takes answerTo tablesOf buildingOf
   did-move q e =

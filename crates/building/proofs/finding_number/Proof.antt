@@ -25,6 +25,12 @@ enum-told-6 c = search needs
 enum-told-7 : tie.Need-enum-told-7
 enum-told-7 c = search needs
 
+enum-told-8 : tie.Need-enum-told-8
+enum-told-8 c = search needs
+
+enum-told-9 : tie.Need-enum-told-9
+enum-told-9 c = search needs
+
 returns : tie.Need-returns
 unfolding findingNumber
 returns c = search needs
@@ -53,6 +59,14 @@ returns-7 : tie.Need-returns-7
 unfolding findingNumber
 returns-7 c = search needs
 
+returns-8 : tie.Need-returns-8
+unfolding findingNumber
+returns-8 c = search needs
+
+returns-9 : tie.Need-returns-9
+unfolding findingNumber
+returns-9 c = search needs
+
 pub finding-number-spec : {M : Type 1} → statement M
 finding-number-spec =
     tie.close
@@ -64,10 +78,14 @@ finding-number-spec =
     enum-told-5
     enum-told-6
     enum-told-7
+    enum-told-8
+    enum-told-9
     returns
     returns-2
     returns-3
     returns-4
     returns-5
     returns-6
-    returns-7)
+    returns-7
+    returns-8
+    returns-9)

@@ -25,6 +25,12 @@ enum-known-f-2 c = search needs
 enum-known-f-3 : tie.Need-enum-known-f-3
 enum-known-f-3 c = search needs
 
+enum-told-5 : tie.Need-enum-told-5
+enum-told-5 c = search needs
+
+enum-told-6 : tie.Need-enum-told-6
+enum-told-6 c = search needs
+
 returns : tie.Need-returns
 unfolding findingPosition
 returns c = search needs
@@ -53,6 +59,14 @@ returns-7 : tie.Need-returns-7
 unfolding findingPosition
 returns-7 c = search needs
 
+returns-8 : tie.Need-returns-8
+unfolding findingPosition
+returns-8 c = search needs
+
+returns-9 : tie.Need-returns-9
+unfolding findingPosition
+returns-9 c = search needs
+
 pub finding-position-spec : {M : Type 1} → statement M
 finding-position-spec =
     tie.close
@@ -64,10 +78,14 @@ finding-position-spec =
     enum-told-4
     enum-known-f-2
     enum-known-f-3
+    enum-told-5
+    enum-told-6
     returns
     returns-2
     returns-3
     returns-4
     returns-5
     returns-6
-    returns-7)
+    returns-7
+    returns-8
+    returns-9)

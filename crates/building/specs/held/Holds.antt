@@ -6,11 +6,12 @@ use mathlib.Core.List.{List}
 use mathlib.Core.Logic.{_⊎_}
 use lib.ListN.{length, getD, take}
 use lib.IntN.{ℤ, pos}
-use Rattle.polygon.specs.Ring.{isShort, finding}
+use Rattle.polygon.specs.Ring.{isShort}
+use Rattle.inner.specs.Finding.{finding, part}
 use Rattle.ring.specs.Entries.{isUnclosed, isRepeated}
-use Rattle.volume.specs.Part.{part}
 use Rattle.space.specs.held.Points.{pointsOf, Coords}
-use Rattle.shell.specs.held.Held.{ringAt, rings, Starts, Entries}
+use Rattle.ring.specs.held.Rings.{ringAt, polygonAt, polygons, Layout}
+use Rattle.shell.specs.held.Held.{Entries}
 use Rattle.shell.specs.declared.Shape.{Shape}
 use Rattle.shell.specs.held.Kept.{Listed, Edged, nowOf, alikeIn}
 use Rattle.building.specs.declared.Scalars.{Scalars}
@@ -18,12 +19,12 @@ use Rattle.polygon.specs.held.Findings.{keptFinding}
 use Rattle.building.specs.Tables.{Tables, Building}
 
 -- the tables that the arrays and the scalars hold, in a load and after it
-unfoldable pub heldTables : List ℤ → List ℕ → List ℕ → Scalars → Tables
-heldTables points entries starts s =
+unfoldable pub heldTables : List ℤ → List ℕ → List ℕ → List ℕ → Scalars → Tables
+heldTables points entries starts firsts s =
     record {
       tolerance = s .tolerance;
       points = take (s .points) (pointsOf points);
-      polygons = rings entries starts (s .polygons);
+      polygons = polygons entries starts firsts (s .polygons);
     }
 
 -- all arrays
@@ -31,33 +32,35 @@ pub record Arrays : Type 0 where
   pub points : List ℤ
   pub entries : List ℕ
   pub starts : List ℕ
+  pub firsts : List ℕ
   pub stamps : List ℕ
   pub findings : List ℕ
   pub parts : List ℤ
   pub table : List ℕ
   pub turned : List ℕ
 
-abbrev pub arrays : List ℤ → List ℕ → List ℕ → List ℕ → List ℕ → List ℤ → List ℕ → List ℕ → Arrays
-arrays points entries starts stamps findings parts table turned =
-    record { points = points; entries = entries; starts = starts; stamps = stamps; findings = findings; parts = parts; table = table; turned = turned }
+abbrev pub arrays : List ℤ → List ℕ → List ℕ → List ℕ → List ℕ → List ℕ → List ℤ → List ℕ → List ℕ → Arrays
+arrays points entries starts firsts stamps findings parts table turned =
+    record { points = points; entries = entries; starts = starts; firsts = firsts; stamps = stamps; findings = findings; parts = parts; table = table; turned = turned }
 
 -- the building that they hold after a load
 unfoldable pub heldBuilding : Arrays → Scalars → Building
 heldBuilding a s =
     record {
-      tables = heldTables (a .points) (a .entries) (a .starts) s;
+      tables = heldTables (a .points) (a .entries) (a .starts) (a .firsts) s;
       last = s .last;
       stamps = take (s .polygons) (a .stamps);
     }
 
 -- the bounds of what a load fills
-pub record Loaded (points : List ℤ) (entries starts : List ℕ) (s : Scalars) : Type 0 where
+pub record Loaded (points : List ℤ) (entries starts firsts : List ℕ) (s : Scalars) : Type 0 where
   pub coords : Coords points
   pub first : getD starts 0 0 ≡ 0
-  pub begins : Starts starts (s .polygons)
-  pub entered : Entries entries (getD starts (s .polygons) 0) (s .points)
+  pub layout : Layout entries starts firsts (s .polygons)
+  pub ones : (p : ℕ) → p ≤ s .polygons → getD firsts p 0 ≡ p
+  pub entered : Entries entries (getD starts (getD firsts (s .polygons) 0) 0) (s .points)
   pub tolerant : s .tolerance ≤ 1000
-  pub short : (p : ℕ) → p < s .polygons → length (ringAt entries starts p) ≤ 128
+  pub short : (r : ℕ) → r < getD firsts (s .polygons) 0 → length (ringAt entries starts r) ≤ 128
 
 -- the arrays that a load does not fill
 pub record Sizes (a : Arrays) : Type 0 where
@@ -67,45 +70,45 @@ pub record Sizes (a : Arrays) : Type 0 where
   pub table : length (a .table) ≡ 1024
   pub turned : length (a .turned) ≡ 256
 
--- every kept finding, with its position, is that of the present points and rings
-pub record Found (points : List ℤ) (entries starts findings : List ℕ) (s : Scalars) : Type 0 where
+-- every kept finding, with its position, is that of the present points and polygons
+pub record Found (points : List ℤ) (entries starts firsts findings : List ℕ) (s : Scalars) : Type 0 where
   pub size : length findings ≡ 256
-  pub each : (p : ℕ) → p < s .polygons → getD findings p 0 ≡ keptFinding (finding (s .tolerance) (pointsOf points) (ringAt entries starts p))
+  pub each : (p : ℕ) → p < s .polygons → getD findings p 0 ≡ keptFinding (finding (s .tolerance) (pointsOf points) (polygonAt entries starts firsts p))
 
 -- and so is every kept part
-pub record Summed (points : List ℤ) (entries starts : List ℕ) (parts : List ℤ) (s : Scalars) : Type 0 where
+pub record Summed (points : List ℤ) (entries starts firsts : List ℕ) (parts : List ℤ) (s : Scalars) : Type 0 where
   pub size : length parts ≡ 256
-  pub each : (p : ℕ) → p < s .polygons → getD parts p (pos 0) ≡ part (pointsOf points) (ringAt entries starts p)
+  pub each : (p : ℕ) → p < s .polygons → getD parts p (pos 0) ≡ part (pointsOf points) (polygonAt entries starts firsts p)
 
 -- whether a ring fails one of checks 01 to 03
 unfoldable pub isBroken : List ℕ → Bool
 isBroken ring = isShort ring || isUnclosed ring || isRepeated ring
 
--- some ring fails one of checks 01 to 03, which no correction mends
-pub record Broken (entries starts : List ℕ) (n : ℕ) : Type 0 where
+-- the outer ring of some polygon fails one of checks 01 to 03, which no correction mends
+pub record Broken (entries starts firsts : List ℕ) (n : ℕ) : Type 0 where
   pub polygon : ℕ
   pub below : polygon < n
-  pub broken : isBroken (ringAt entries starts polygon) ≡ true
+  pub broken : isBroken (polygonAt entries starts firsts polygon .outer) ≡ true
 
--- `now` is the shape that the kept table, flags and verdict tell: that of the present rings, where each of them passes 01 to 03
+-- `now` is the shape that the kept table, flags and verdict tell: that of the present polygons, where each ring passes 01 to 03
 abbrev pub Shown : List ℕ → ℕ → List ℕ → Shape → Shape → Type 0
 Shown table edges turned fixed now = now ≡ nowOf fixed (alikeIn turned (take edges table))
 
 -- what is kept of a held building is what the definitions give for the present points and rings; the edge table, whatever they are
-pub record Kept (points : List ℤ) (entries starts findings : List ℕ) (parts : List ℤ) (table turned : List ℕ) (s : Scalars) : Type 0 where
-  pub found : Found points entries starts findings s
-  pub summed : Summed points entries starts parts s
+pub record Kept (points : List ℤ) (entries starts firsts findings : List ℕ) (parts : List ℤ) (table turned : List ℕ) (s : Scalars) : Type 0 where
+  pub found : Found points entries starts firsts findings s
+  pub summed : Summed points entries starts firsts parts s
   pub table-size : length table ≡ 1024
   pub turned-size : length turned ≡ 256
-  pub listed : Listed (rings entries starts (s .polygons)) table (s .edges) turned
-  pub shaped : Broken entries starts (s .polygons) ⊎ Edged (rings entries starts (s .polygons)) table (s .edges) turned (s .fixed)
+  pub listed : Listed (polygons entries starts firsts (s .polygons)) table (s .edges) turned
+  pub shaped : Broken entries starts firsts (s .polygons) ⊎ Edged (polygons entries starts firsts (s .polygons)) table (s .edges) turned (s .fixed)
   pub shown : Shown table (s .edges) turned (s .fixed) (s .shape)
 
 -- a held building
 pub record Held (a : Arrays) (s : Scalars) : Type 0 where
-  pub loaded : Loaded (a .points) (a .entries) (a .starts) s
+  pub loaded : Loaded (a .points) (a .entries) (a .starts) (a .firsts) s
   pub stamped : length (a .stamps) ≡ 256
-  pub kept : Kept (a .points) (a .entries) (a .starts) (a .findings) (a .parts) (a .table) (a .turned) s
+  pub kept : Kept (a .points) (a .entries) (a .starts) (a .firsts) (a .findings) (a .parts) (a .table) (a .turned) s
 
 -- what is held after it is the building b
 pub record Did (b : Building) (a : Arrays) (s : Scalars) : Type 0 where

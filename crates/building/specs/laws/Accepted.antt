@@ -11,14 +11,16 @@ use Rattle.whole.specs.Lists.{given, first, firstGiven, numberedFrom, numbered,
 use Rattle.whole.specs.All as A
 use Rattle.whole.specs.All.{All}
 use Rattle.polygon.specs.declared.Finding.{Finding}
-use Rattle.polygon.specs.declared.Finding.the-variants.{Sound, Short, Unclosed, Repeated, NoNormal, Crossed, Uneven}
-use Rattle.polygon.specs.Ring.{finding, findingNumber}
+use Rattle.polygon.specs.declared.Finding.the-variants.{Sound, Short, Unclosed, Repeated, NoNormal, Crossed, Uneven, Shared, Misplaced}
+use Rattle.polygon.specs.Ring.{findingNumber}
+use Rattle.inner.specs.Finding.{finding}
 use Rattle.shell.specs.declared.Shape.{Shape}
 use Rattle.shell.specs.declared.Shape.the-variants.{Whole, Few, Once, Often, Alike, Apart, Unlinked}
 use Rattle.shell.specs.Shell.{shape, shapeNumber}
 use Rattle.building.specs.declared.Verdict.{Verdict}
 use Rattle.building.specs.declared.Verdict.the-variants.{Accepted, Faulty, Unsound, Inward}
-use Rattle.building.specs.Tables.{Tables, Polygon}
+use Rattle.ring.specs.Polygon.{Polygon}
+use Rattle.building.specs.Tables.{Tables}
 use Rattle.building.specs.Report.{checkNumber, shapeFault, findings, isFault, lowestFault, sixVolume, verdict}
 
 -- no polygon has a finding, no check of the whole fails, and the six-volume is above zero
@@ -36,6 +38,8 @@ is-sound (Repeated i) e = absurd (true≢false e)
 is-sound NoNormal e = absurd (true≢false e)
 is-sound (Crossed i) e = absurd (true≢false e)
 is-sound (Uneven i) e = absurd (true≢false e)
+is-sound Shared e = absurd (true≢false e)
+is-sound Misplaced e = absurd (true≢false e)
 
 -- the rows of the findings, from number n on
 unfoldable pub rows : ℕ → List Finding → List (Option Verdict)

@@ -12,6 +12,9 @@ use Rattle.polygon.specs.Ring.{findingNumber, findingPosition}
 pub close-ring-agrees : (starts : List ℕ) (n end : ℕ) (s₁ s₂ : List ℕ) → s₁ ≡ set starts (n + 1) end → s₂ ≡ set starts (n + 1) end → s₁ ≡ s₂
 close-ring-agrees starts n end s₁ s₂ = agree
 
+pub close-polygon-agrees : (firsts : List ℕ) (n end : ℕ) (s₁ s₂ : List ℕ) → s₁ ≡ set firsts (n + 1) end → s₂ ≡ set firsts (n + 1) end → s₁ ≡ s₂
+close-polygon-agrees firsts n end s₁ s₂ = agree
+
 pub finding-number-agrees : (f : Finding) (r₁ r₂ : ℕ) → r₁ ≡ findingNumber f → r₂ ≡ findingNumber f → r₁ ≡ r₂
 finding-number-agrees f r₁ r₂ = agree
 

@@ -1,7 +1,7 @@
 -- Findings as the numbers that are kept, and the checks that no correction changes.
 use Prim.Native.Nat.{ℕ, _+_, _*_, _/_, _%_, _≤_}
 use native.Mathlib.Omega.{arith}
-use mathlib.Core.Path.{_≡_, refl, sym, ap₂, _∙_, subst}
+use mathlib.Core.Path.{_≡_, refl, sym, ap, ap₂, _∙_, subst}
 use mathlib.Core.Bool.{Bool, true, false, false≢true}
 use mathlib.Core.List.{List, [], _∷_, reverse}
 use borrow.Author.Tests.{lt-ltb}
@@ -10,8 +10,11 @@ use Rattle.whole.specs.Lists.{given, first}
 use Rattle.space.specs.Space.{Point, places}
 use Rattle.plane.specs.Plane.{largestAxis}
 use Rattle.polygon.specs.declared.Finding.{Finding}
-use Rattle.polygon.specs.declared.Finding.the-variants.{Sound, Short, Unclosed, Repeated, NoNormal, Crossed, Uneven}
-use Rattle.polygon.specs.Ring.{isShort, edgesIn, finding, findingNumber, findingPosition}
+use Rattle.polygon.specs.declared.Finding.the-variants.{Sound, Short, Unclosed, Repeated, NoNormal, Crossed, Uneven, Shared, Misplaced}
+use Rattle.polygon.specs.Ring.{isShort, edgesIn, ringRows, finding, findingNumber, findingPosition}
+use Rattle.ring.specs.Polygon.{Polygon, one}
+use Rattle.inner.specs.Finding as Inner
+use Rattle.inner.specs.laws.One.{one-ring}
 use Rattle.ring.specs.Entries.{isUnclosed, isRepeated}
 use Rattle.normal.specs.Normal.{normal, isZero}
 use Rattle.crossing.specs.Crossed.{isCrossed, crossedAt}
@@ -31,8 +34,10 @@ of-number (Repeated i) = refl
 of-number NoNormal = refl
 of-number (Crossed i) = refl
 of-number (Uneven i) = refl
+of-number Shared = refl
+of-number Misplaced = refl
 
-pub number-few : (f : Finding) → findingNumber f ≤ 6
+pub number-few : (f : Finding) → findingNumber f ≤ 15
 unfolding findingNumber
 number-few Sound = omega arith
 number-few Short = omega arith
@@ -41,6 +46,8 @@ number-few (Repeated i) = omega arith
 number-few NoNormal = omega arith
 number-few (Crossed i) = omega arith
 number-few (Uneven i) = omega arith
+number-few Shared = omega arith
+number-few Misplaced = omega arith
 
 module _ (f : Finding) {k : ℕ} (e : k ≡ keptFinding f) where
   pub kept-number : k % 16 ≡ findingNumber f
@@ -64,6 +71,8 @@ kept-fault (Repeated i) = lt-ltb 0 (16 * i + 3) (omega arith)
 kept-fault NoNormal = refl
 kept-fault (Crossed i) = lt-ltb 0 (16 * i + 5) (omega arith)
 kept-fault (Uneven i) = lt-ltb 0 (16 * i + 6) (omega arith)
+kept-fault Shared = refl
+kept-fault Misplaced = refl
 
 -- a number of checks 01 to 03
 pub record Early (n : ℕ) : Type 0 where
@@ -73,7 +82,7 @@ pub record Early (n : ℕ) : Type 0 where
 module _ (tolerance : ℕ) (points : List Point) (ring : List ℕ) where
   -- such a ring's finding is one of them, and no other ring's is
   pub broken-early : isBroken ring ≡ true → Early (findingNumber (finding tolerance points ring))
-  unfolding isBroken finding first given findingNumber
+  unfolding isBroken ringRows finding first given findingNumber
   broken-early = go (isShort ring) refl (isUnclosed ring) refl (isRepeated ring) refl
     where
       early : (n : ℕ) → findingNumber (finding tolerance points ring) ≡ n → Early n → Early (findingNumber (finding tolerance points ring))
@@ -86,7 +95,7 @@ module _ (tolerance : ℕ) (points : List Point) (ring : List ℕ) where
       go false p false q false t b = absurd (false≢true (sym (rw (p, q, t)) ∙ b))
 
   pub early-broken : Early (findingNumber (finding tolerance points ring)) → isBroken ring ≡ true
-  unfolding isBroken finding first given findingNumber
+  unfolding isBroken ringRows finding first given findingNumber
   early-broken = go (isShort ring) refl (isUnclosed ring) refl (isRepeated ring) refl
     where
       late : (n c : Bool) (i : ℕ) (e : Bool) (k : ℕ) → Early (findingNumber (first Sound (given n NoNormal ∷ given c (Crossed i) ∷ given e (Uneven k) ∷ []))) → ⊥
@@ -104,6 +113,21 @@ module _ (tolerance : ℕ) (points : List Point) (ring : List ℕ) where
           let n = normal ps in
           let es = edgesIn (largestAxis n) ps in
           absurd (late (isZero n) (isCrossed es) (crossedAt es) (isUneven tolerance n ps) (unevenAt tolerance n ps) (rw (p, q, t) at h)))
+
+-- so it is with a polygon of one ring
+module _ (tolerance : ℕ) (points : List Point) (p : Polygon) (ring : List ℕ) (e : p ≡ one ring) where
+  outer-is : isBroken (p .outer) ≡ isBroken ring
+  unfolding one
+  outer-is = ap (λ (q : Polygon). isBroken (q .outer)) e
+
+  number-is : findingNumber (Inner.finding tolerance points p) ≡ findingNumber (finding tolerance points ring)
+  number-is = ap (λ (q : Polygon). findingNumber (Inner.finding tolerance points q)) e ∙ ap findingNumber (one-ring points ring tolerance)
+
+  pub broken-one : isBroken (p .outer) ≡ true → Early (findingNumber (Inner.finding tolerance points p))
+  broken-one b = subst Early (sym number-is) (broken-early tolerance points ring (sym outer-is ∙ b))
+
+  pub one-broken : Early (findingNumber (Inner.finding tolerance points p)) → isBroken (p .outer) ≡ true
+  one-broken h = outer-is ∙ early-broken tolerance points ring (subst Early number-is h)
 
 -- a turn mends none of them
 pub broken-turned : (ring : List ℕ) → isBroken ring ≡ true → isBroken (reverse ring) ≡ true

@@ -3,16 +3,17 @@ use Prim.Native.Nat.{ℕ, zero, suc, _+_, _≤_, _<_}
 use native.Mathlib.Omega.{arith}
 use mathlib.Core.Path.{_≡_, refl, ap, _∙_}
 use mathlib.Core.Bool.{Bool, true, false, cond, not}
-use mathlib.Core.List.{List, [], _∷_, map, reverse, reverse-reverse}
+use mathlib.Core.List.{List, [], _∷_, map}
 use borrow.Author.Tests.{eq-eqb, ne-eqb}
 use lib.Dec.{eqb}
 use lib.ListN.{length, getD, set}
 use native.Mathlib.Nat.{zero-add}
-use Rattle.whole.specs.laws.Reverse.{any-reverse}
-use Rattle.whole.specs.Lists.{any, at, lists}
+use Rattle.whole.specs.Lists.{at, lists}
 use Rattle.space.specs.Space.{Point}
-use Rattle.building.specs.Tables.{Tables, Polygon, loaded, moved, turned, stampUsers}
-use Rattle.building.specs.Corrections.{Correction, move, turn, mapFrom, placeOf, oddTurns, ringOf, touches, numberOf, stampOf, lastNumber, corrected, told, corrects}
+use Rattle.ring.specs.Polygon.{Polygon, one, entriesOf, turnedOver}
+use Rattle.ring.specs.laws.Turned.{twice-over, lists-turned}
+use Rattle.building.specs.Tables.{Tables, loaded, moved, turned, stampUsers}
+use Rattle.building.specs.Corrections.{Correction, move, turn, mapFrom, placeOf, oddTurns, afterTurns, touches, numberOf, stampOf, lastNumber, corrected, told, corrects}
 
 -- ---- changing one of a list
 
@@ -47,18 +48,14 @@ module _ {A B : Type 0} (f g : ℕ → A → B) where
         let r : at j φ (mapFrom (suc k) f l) ≡ mapFrom (suc k) g l = at-mapFrom l (suc k) j (omega arith) in
         rw (a, r)
 
--- ---- a ring lists the same numbers turned
+-- ---- a polygon lists the same numbers turned
 
-pub lists-reverse : (n : ℕ) (l : List ℕ) → lists n (reverse l) ≡ lists n l
-unfolding lists any
-lists-reverse n l = any-reverse (eqb n) l
-
-lists-ringOf : (h : List Correction) (n k : ℕ) (ring : Polygon) → lists n (ringOf h k ring) ≡ lists n ring
-unfolding ringOf
-lists-ringOf h n k ring = go (oddTurns h k)
+lists-after : (h : List Correction) (n k : ℕ) (p : Polygon) → lists n (entriesOf (afterTurns h k p)) ≡ lists n (entriesOf p)
+unfolding afterTurns
+lists-after h n k p = go (oddTurns h k)
   where
-    go : (b : Bool) → lists n (cond b (reverse ring) ring) ≡ lists n ring
-    go true = lists-reverse n ring
+    go : (b : Bool) → lists n (entriesOf (cond b (turnedOver p) p)) ≡ lists n (entriesOf p)
+    go true = lists-turned n p
     go false = refl
 
 -- ---- one correction more
@@ -71,24 +68,24 @@ module _ (h : List Correction) (number n : ℕ) where
       ∙ at-mapFrom (placeOf h) (placeOf (move number n p ∷ h)) (λ _. p) n (λ x. rw (eq-eqb n n refl, placeOf)) (λ i x z. rw (ne-eqb i n z, placeOf)) ps 0 n (omega arith)
 
   move-stamps : (p : Point) (rs : List Polygon) (k : ℕ)
-      → stampUsers number n (mapFrom k (ringOf h) rs) (mapFrom k (stampOf h) rs) ≡ mapFrom k (stampOf (move number n p ∷ h)) rs
+      → stampUsers number n (mapFrom k (afterTurns h) rs) (mapFrom k (stampOf h) rs) ≡ mapFrom k (stampOf (move number n p ∷ h)) rs
   unfolding stampUsers mapFrom stampOf touches numberOf
   move-stamps p [] k = refl
   move-stamps p (r ∷ rs) k =
-      let e : stampUsers number n (mapFrom (suc k) (ringOf h) rs) (mapFrom (suc k) (stampOf h) rs) ≡ mapFrom (suc k) (stampOf (move number n p ∷ h)) rs = move-stamps p rs (suc k) in
-      rw (e, lists-ringOf h n k r) (go (lists n r) refl)
+      let e : stampUsers number n (mapFrom (suc k) (afterTurns h) rs) (mapFrom (suc k) (stampOf h) rs) ≡ mapFrom (suc k) (stampOf (move number n p ∷ h)) rs = move-stamps p rs (suc k) in
+      rw (e, lists-after h n k r) (go (lists n (entriesOf r)) refl)
     where
-      go : (b : Bool) → lists n r ≡ b → (cond b number (stampOf h k r) ∷ mapFrom (suc k) (stampOf (move number n p ∷ h)) rs) ≡ mapFrom k (stampOf (move number n p ∷ h)) (r ∷ rs)
+      go : (b : Bool) → lists n (entriesOf r) ≡ b → (cond b number (stampOf h k r) ∷ mapFrom (suc k) (stampOf (move number n p ∷ h)) rs) ≡ mapFrom k (stampOf (move number n p ∷ h)) (r ∷ rs)
       go true e = rw (e, stampOf, touches)
       go false e = rw (e, stampOf, touches)
 
-  turn-rings : (rs : List Polygon) → at n reverse (mapFrom 0 (ringOf h) rs) ≡ mapFrom 0 (ringOf (turn number n ∷ h)) rs
-  unfolding ringOf oddTurns
-  turn-rings rs =
-      at-mapFrom (ringOf h) (ringOf (turn number n ∷ h)) reverse n (λ x. rw (eq-eqb n n refl, ringOf, oddTurns) (go x (oddTurns h n))) (λ i x z. rw (ne-eqb i n z, ringOf, oddTurns)) rs 0 n (omega arith)
+  turn-polygons : (rs : List Polygon) → at n turnedOver (mapFrom 0 (afterTurns h) rs) ≡ mapFrom 0 (afterTurns (turn number n ∷ h)) rs
+  unfolding afterTurns oddTurns
+  turn-polygons rs =
+      at-mapFrom (afterTurns h) (afterTurns (turn number n ∷ h)) turnedOver n (λ x. rw (eq-eqb n n refl, afterTurns, oddTurns) (go x (oddTurns h n))) (λ i x z. rw (ne-eqb i n z, afterTurns, oddTurns)) rs 0 n (omega arith)
     where
-      go : (x : Polygon) (b : Bool) → reverse (cond b (reverse x) x) ≡ cond (not b) (reverse x) x
-      go x true = reverse-reverse x
+      go : (x : Polygon) (b : Bool) → turnedOver (cond b (turnedOver x) x) ≡ cond (not b) (turnedOver x) x
+      go x true = twice-over x
       go x false = refl
 
   turn-stamps : (rs : List Polygon) → set (mapFrom 0 (stampOf h) rs) n number ≡ mapFrom 0 (stampOf (turn number n ∷ h)) rs
@@ -99,13 +96,13 @@ module _ (h : List Correction) (number n : ℕ) where
 
 -- a correction of what the history tells is what the longer history tells
 pub corrects-told : (t : Tables) (h : List Correction) (c : Correction) → corrects c (told t h) ≡ told t (c ∷ h)
-unfolding corrects told corrected lastNumber numberOf moved turned placeOf ringOf oddTurns
+unfolding corrects told corrected lastNumber numberOf moved turned placeOf afterTurns oddTurns
 corrects-told t h (move number n p) =
     let a : set (mapFrom 0 (placeOf h) (t .points)) n p ≡ mapFrom 0 (placeOf (move number n p ∷ h)) (t .points) = move-points h number n p (t .points) in
-    let b : stampUsers number n (mapFrom 0 (ringOf h) (t .polygons)) (mapFrom 0 (stampOf h) (t .polygons)) ≡ mapFrom 0 (stampOf (move number n p ∷ h)) (t .polygons) = move-stamps h number n p (t .polygons) 0 in
+    let b : stampUsers number n (mapFrom 0 (afterTurns h) (t .polygons)) (mapFrom 0 (stampOf h) (t .polygons)) ≡ mapFrom 0 (stampOf (move number n p ∷ h)) (t .polygons) = move-stamps h number n p (t .polygons) 0 in
     rw (a, b)
 corrects-told t h (turn number n) =
-    let a : at n reverse (mapFrom 0 (ringOf h) (t .polygons)) ≡ mapFrom 0 (ringOf (turn number n ∷ h)) (t .polygons) = turn-rings h number n (t .polygons) in
+    let a : at n turnedOver (mapFrom 0 (afterTurns h) (t .polygons)) ≡ mapFrom 0 (afterTurns (turn number n ∷ h)) (t .polygons) = turn-polygons h number n (t .polygons) in
     let b : set (mapFrom 0 (stampOf h) (t .polygons)) n number ≡ mapFrom 0 (stampOf (turn number n ∷ h)) (t .polygons) = turn-stamps h number n (t .polygons) in
     rw (a, b)
 
@@ -121,14 +118,14 @@ mapFrom-zero [] k = refl
 mapFrom-zero (x ∷ l) k = ap (λ (m : List ℕ). 0 ∷ m) (mapFrom-zero l (suc k))
 
 pub told-loaded : (t : Tables) → told t [] ≡ loaded t
-unfolding told corrected placeOf ringOf oddTurns stampOf lastNumber loaded
+unfolding told corrected placeOf afterTurns oddTurns stampOf lastNumber loaded
 told-loaded t =
     let a : mapFrom 0 (λ i x. x) (t .points) ≡ t .points = mapFrom-id (t .points) 0 in
     let b : mapFrom 0 (λ i x. x) (t .polygons) ≡ t .polygons = mapFrom-id (t .polygons) 0 in
     let d : mapFrom {B = ℕ} 0 (λ i x. 0) (t .polygons) ≡ map (λ x. 0) (t .polygons) = mapFrom-zero (t .polygons) 0 in
     rw (a, b, d)
 
--- ---- one point, ring or stamp of what the history tells
+-- ---- one point, polygon or stamp of what the history tells
 
 getD-mapFrom : {A B : Type 0} (f : ℕ → A → B) (l : List A) (k n : ℕ) (x : A) (y : B) → n < length l → getD (mapFrom k f l) n y ≡ f (k + n) (getD l n x)
 unfolding mapFrom
@@ -143,13 +140,13 @@ module _ (t : Tables) (h : List Correction) (n : ℕ) where
   unfolding told corrected
   place-told o l = getD-mapFrom (placeOf h) (t .points) 0 n o o l ∙ ap (λ (i : ℕ). placeOf h i (getD (t .points) n o)) (zero-add n)
 
-  pub ring-told : n < length (t .polygons) → getD (told t h .tables .polygons) n [] ≡ ringOf h n (getD (t .polygons) n [])
+  pub polygon-told : n < length (t .polygons) → getD (told t h .tables .polygons) n (one []) ≡ afterTurns h n (getD (t .polygons) n (one []))
   unfolding told corrected
-  ring-told l = getD-mapFrom (ringOf h) (t .polygons) 0 n [] [] l ∙ ap (λ (i : ℕ). ringOf h i (getD (t .polygons) n [])) (zero-add n)
+  polygon-told l = getD-mapFrom (afterTurns h) (t .polygons) 0 n (one []) (one []) l ∙ ap (λ (i : ℕ). afterTurns h i (getD (t .polygons) n (one []))) (zero-add n)
 
-  pub stamp-told : n < length (t .polygons) → getD (told t h .stamps) n 0 ≡ stampOf h n (getD (t .polygons) n [])
+  pub stamp-told : n < length (t .polygons) → getD (told t h .stamps) n 0 ≡ stampOf h n (getD (t .polygons) n (one []))
   unfolding told
-  stamp-told l = getD-mapFrom (stampOf h) (t .polygons) 0 n [] 0 l ∙ ap (λ (i : ℕ). stampOf h i (getD (t .polygons) n [])) (zero-add n)
+  stamp-told l = getD-mapFrom (stampOf h) (t .polygons) 0 n (one []) 0 l ∙ ap (λ (i : ℕ). stampOf h i (getD (t .polygons) n (one []))) (zero-add n)
 
 length-mapFrom : {A B : Type 0} (f : ℕ → A → B) (l : List A) (k : ℕ) → length (mapFrom k f l) ≡ length l
 unfolding mapFrom
@@ -159,4 +156,4 @@ length-mapFrom f (x ∷ l) k = ap suc (length-mapFrom f l (suc k))
 -- corrections leave the number of polygons
 pub polygons-told : (t : Tables) (h : List Correction) → length (told t h .tables .polygons) ≡ length (t .polygons)
 unfolding told corrected
-polygons-told t h = length-mapFrom (ringOf h) (t .polygons) 0
+polygons-told t h = length-mapFrom (afterTurns h) (t .polygons) 0

@@ -86,6 +86,10 @@ module _ {A : Type 0} where
       sym (getD-cut a (a + length vs) i (sets l a vs) d b) ∙ ap (λ (r : List A). getD r i d) (cut-sets a (a + length vs) l vs (omega arith) w n)
 
   -- ---- what holds of every element, by its index
+  pub each-all : (P : A → Type 0) (d : A) (l : List A) → ((i : ℕ) → i < length l → P (getD l i d)) → All P l
+  each-all P d [] h = none
+  each-all P d (x ∷ l) h = more (h 0 (omega arith)) (each-all P d l (λ i g. h (suc i) (omega arith)))
+
   pub all-each : (P : A → Type 0) (d : A) {l : List A} → All P l → (i : ℕ) → i < length l → P (getD l i d)
   all-each P d none i h = absurd (omega arith)
   all-each P d (more p a) zero h = p

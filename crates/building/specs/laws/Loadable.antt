@@ -1,9 +1,9 @@
 -- The tables that a load can bring about: every held building has such tables, before and after corrections.
 use Prim.Native.Nat.{ℕ, zero, suc, _+_, _≤_, _<_}
 use native.Mathlib.Omega.{arith}
-use mathlib.Core.Path.{_≡_, refl, _∙_}
+use mathlib.Core.Path.{_≡_, refl, ap, _∙_}
 use mathlib.Core.Bool.{Bool, true, false, true≢false}
-use mathlib.Core.List.{List, [], _∷_, _++_, reverse}
+use mathlib.Core.List.{List, [], _∷_, _++_, map, reverse}
 use lib.ListN.{length, set, length-append, length-set, length-reverse}
 use Rattle.whole.specs.Lists.{at}
 use Rattle.whole.specs.All.{All, none, more}
@@ -12,7 +12,9 @@ use Rattle.space.specs.Space.{Point, samePlace}
 use Rattle.space.specs.laws.Laws.{samePlace-sym}
 use Rattle.shell.specs.laws.Tabs.{length-at}
 use Rattle.places.specs.Points.{isFar, stands, standsElse}
-use Rattle.building.specs.Tables.{Tables, Building, Polygon, begun, withPoint, withPolygon, entries, moved, turned}
+use Rattle.ring.specs.Polygon.{Polygon, one, entriesOf, turnedOver}
+use Rattle.ring.specs.laws.Turned.{entries-one, length-turned}
+use Rattle.building.specs.Tables.{Tables, Building, begun, withPoint, withPolygon, entries, moved, turned}
 
 -- "two different numbers are never one place"
 pub data Apart : List Point → Type 0 where
@@ -20,9 +22,14 @@ pub data Apart : List Point → Type 0 where
   one-more : {q : Point} {ps : List Point} → All (λ (r : Point). samePlace r q ≡ false) ps → Apart ps → Apart (q ∷ ps)
 
 -- a ring of at most 128 entries, each below the number of points
-pub record RingOver (n : ℕ) (ring : Polygon) : Type 0 where
+pub record RingOver (n : ℕ) (ring : List ℕ) : Type 0 where
   pub few : length ring ≤ 128
   pub known : All (λ (e : ℕ). e < n) ring
+
+-- a polygon of one such ring
+pub record PolygonOver (n : ℕ) (p : Polygon) : Type 0 where
+  pub outer : RingOver n (p .outer)
+  pub alone : p .inner ≡ []
 
 -- the bounds, and refusals 05 and 06
 pub record Loadable (t : Tables) : Type 0 where
@@ -32,7 +39,7 @@ pub record Loadable (t : Tables) : Type 0 where
   pub apart : Apart (t .points)
   pub polygons-few : length (t .polygons) ≤ 256
   pub entries-few : entries (t .polygons) ≤ 1024
-  pub rings : All (RingOver (length (t .points))) (t .polygons)
+  pub each : All (PolygonOver (length (t .points))) (t .polygons)
 
 -- ---- points apart
 
@@ -65,23 +72,27 @@ apart-set (q ∷ ps) (suc n) p (one-more d b) e = go (samePlace p q) refl e (apa
 
 -- ---- entries
 
-pub entries-append : (rs ss : List Polygon) → entries (rs ++ ss) ≡ entries rs + entries ss
+pub entries-append : (ps qs : List Polygon) → entries (ps ++ qs) ≡ entries ps + entries qs
 unfolding entries
-entries-append [] ss = omega arith
-entries-append (r ∷ rs) ss = let ih : entries (rs ++ ss) ≡ entries rs + entries ss = entries-append rs ss in rw ih (omega arith)
+entries-append [] qs = omega arith
+entries-append (p ∷ ps) qs = let ih : entries (ps ++ qs) ≡ entries ps + entries qs = entries-append ps qs in rw ih (omega arith)
 
-entries-turn : (rs : List Polygon) (n : ℕ) → entries (at n reverse rs) ≡ entries rs
+pub entries-more : (ps : List Polygon) (ring : List ℕ) → entries (ps ++ (one ring ∷ [])) ≡ entries ps + length ring
+unfolding entries
+entries-more ps ring = entries-append ps (one ring ∷ []) ∙ rw (entries-one ring) (omega arith)
+
+entries-turn : (ps : List Polygon) (n : ℕ) → entries (at n turnedOver ps) ≡ entries ps
 unfolding entries at
 entries-turn [] n = refl
-entries-turn (r ∷ rs) zero = rw (length-reverse r)
-entries-turn (r ∷ rs) (suc n) = let ih : entries (at n reverse rs) ≡ entries rs = entries-turn rs n in rw ih
+entries-turn (p ∷ ps) zero = rw (length-turned p)
+entries-turn (p ∷ ps) (suc n) = let ih : entries (at n turnedOver ps) ≡ entries ps = entries-turn ps n in rw ih
 
 -- ---- what keeps tables loadable
 
 pub loadable-begun : (tolerance : ℕ) → tolerance ≤ 1000 → Loadable (begun tolerance)
 unfolding begun entries
 loadable-begun tolerance h =
-    record { tolerant = h; points-few = omega arith; near = none; apart = no-point; polygons-few = omega arith; entries-few = omega arith; rings = none }
+    record { tolerant = h; points-few = omega arith; near = none; apart = no-point; polygons-few = omega arith; entries-few = omega arith; each = none }
 
 module _ (t : Tables) (ok : Loadable t) where
   pub loadable-point : (p : Point) → isFar p ≡ false → length (t .points) < 512 → stands p (t .points) ≡ false → Loadable (withPoint p t)
@@ -95,14 +106,14 @@ module _ (t : Tables) (ok : Loadable t) where
         apart = apart-append (t .points) p (ok .apart) new;
         polygons-few = ok .polygons-few;
         entries-few = ok .entries-few;
-        rings = all-imp (λ r z. record { few = z .few; known = all-imp (λ e h. omega arith) (z .known) }) (ok .rings);
+        each = all-imp (λ p z. record { outer = record { few = z .outer .few; known = all-imp (λ e h. omega arith) (z .outer .known) }; alone = z .alone }) (ok .each);
       }
 
-  pub loadable-polygon : (ring : Polygon) → RingOver (length (t .points)) ring → length (t .polygons) < 256 → entries (t .polygons) + length ring ≤ 1024 → Loadable (withPolygon ring t)
-  unfolding withPolygon entries
+  pub loadable-polygon : (ring : List ℕ) → RingOver (length (t .points)) ring → length (t .polygons) < 256 → entries (t .polygons) + length ring ≤ 1024 → Loadable (withPolygon ring t)
+  unfolding withPolygon one
   loadable-polygon ring r few room =
-      let n : length (t .polygons ++ (ring ∷ [])) ≡ length (t .polygons) + 1 = length-append (t .polygons) (ring ∷ []) in
-      let e : entries (t .polygons ++ (ring ∷ [])) ≡ entries (t .polygons) + (length ring + 0) = entries-append (t .polygons) (ring ∷ []) in
+      let n : length (t .polygons ++ (one ring ∷ [])) ≡ length (t .polygons) + 1 = length-append (t .polygons) (one ring ∷ []) in
+      let e : entries (t .polygons ++ (one ring ∷ [])) ≡ entries (t .polygons) + length ring = entries-more (t .polygons) ring in
       record {
         tolerant = ok .tolerant;
         points-few = ok .points-few;
@@ -110,7 +121,7 @@ module _ (t : Tables) (ok : Loadable t) where
         apart = ok .apart;
         polygons-few = omega arith;
         entries-few = omega arith;
-        rings = all-append (ok .rings) (more r none);
+        each = all-append (ok .each) (more (record { outer = r; alone = refl }) none);
       }
 
 module _ (b : Building) (ok : Loadable (b .tables)) where
@@ -125,18 +136,18 @@ module _ (b : Building) (ok : Loadable (b .tables)) where
         apart = apart-set (b .tables .points) n p (ok .apart) new;
         polygons-few = ok .polygons-few;
         entries-few = ok .entries-few;
-        rings = rw m (ok .rings);
+        each = rw m (ok .each);
       }
 
   pub loadable-turned : (number n : ℕ) → Loadable (turned number n b .tables)
-  unfolding turned
+  unfolding turned turnedOver
   loadable-turned number n =
       record {
         tolerant = ok .tolerant;
         points-few = ok .points-few;
         near = ok .near;
         apart = ok .apart;
-        polygons-few = rw (length-at n reverse (b .tables .polygons)) (ok .polygons-few);
+        polygons-few = rw (length-at n turnedOver (b .tables .polygons)) (ok .polygons-few);
         entries-few = rw (entries-turn (b .tables .polygons) n) (ok .entries-few);
-        rings = all-at n reverse (λ r z. record { few = rw (length-reverse r) (z .few); known = all-reverse (z .known) }) (ok .rings);
+        each = all-at n turnedOver (λ p z. record { outer = record { few = rw (length-reverse (p .outer)) (z .outer .few); known = all-reverse (z .outer .known) }; alone = ap (map reverse) (z .alone) }) (ok .each);
       }

@@ -25,14 +25,14 @@ lowest-early-requires c κs =
     let s = c .before .before .before .before .before .before .before .before in
     let ld = s .pre .0 in
     let sz = s .pre .1 in
-    (ld .begins .few, checked-found ld (sz .findings) (sz .parts) (c .before .before .before .before .before .check-rings .ensures) .size)
+    (ld .layout .few, checked-found ld (sz .findings) (sz .parts) (c .before .before .before .before .before .check-rings .ensures) .size)
 
 built-requires : tie.Need-built-requires
 built-requires c κs =
     let s = c .before .before .before .before .before .before .before .before .before .before in
     let ld = s .pre .0 in
     let sz = s .pre .1 in
-    (ld .entered .size, ld .begins, sz .table, λ t. none-broken ld (sz .findings) (sz .parts) (c .before .before .before .before .before .before .before .check-rings .ensures) _ (c .before .lowest-early .ensures) (leb-true _ _ t))
+    (ld .layout, sz .table, λ t. none-broken ld (sz .findings) (sz .parts) (c .before .before .before .before .before .before .before .check-rings .ensures) _ (c .before .lowest-early .ensures) (leb-true _ _ t))
 
 held-shape-requires : tie.Need-held-shape-requires
 held-shape-requires c κs =
@@ -41,8 +41,8 @@ held-shape-requires c κs =
     let sz = s .pre .1 in
     let z = c .before .before .before .before .before .before .clear-turned .ensures in
     let b = c .before .before .built .ensures in
-    let n = table-length (a .entries .now) (a .starts .now) (a .s .polygons) (a .table .now) _ (s .pre .0 .begins) (sz .table) (b .table-is) in
-    (omega (arith, built-listed (arrays (a .points .now) (a .entries .now) (a .starts .now) (a .stamps .now) (a .findings .now) (a .parts .now) (a .table .now) (a .turned .now)) (a .s) (s .pre .0) sz (a .table .now) _ _ _ _ _ b z .room, n), n, zeroed-length (a .turned .now) 256 z ∙ sz .turned)
+    let n = table-length (a .entries .now) (a .starts .now) (a .firsts .now) (a .s .polygons) (a .table .now) _ (s .pre .0 .layout) (sz .table) (b .table-is) in
+    (omega (arith, built-listed (arrays (a .points .now) (a .entries .now) (a .starts .now) (a .firsts .now) (a .stamps .now) (a .findings .now) (a .parts .now) (a .table .now) (a .turned .now)) (a .s) (s .pre .0) sz (a .table .now) _ _ _ _ _ b z .room, n), n, zeroed-length (a .turned .now) 256 z ∙ sz .turned)
 
 returns : tie.Need-returns
 returns c =
@@ -56,18 +56,18 @@ returns c =
     let low = c .before .before .before .before .before .lowest-early .ensures in
     let b = c .before .before .before .built .ensures in
     let h = c .held-shape .ensures in (
-      did-loaded (arrays (a .points .now) (a .entries .now) (a .starts .now) (a .stamps .now) (a .findings .now) (a .parts .now) (a .table .now) (a .turned .now)) (a .s) ld sz ch st z (table-length (a .entries .now) (a .starts .now) (a .s .polygons) (a .table .now) _ (ld .begins) (sz .table) (b .table-is)) _ _ _
-          (built-listed (arrays (a .points .now) (a .entries .now) (a .starts .now) (a .stamps .now) (a .findings .now) (a .parts .now) (a .table .now) (a .turned .now)) (a .s) ld sz (a .table .now) _ _ _ _ _ b z)
-          (built-shaped (arrays (a .points .now) (a .entries .now) (a .starts .now) (a .stamps .now) (a .findings .now) (a .parts .now) (a .table .now) (a .turned .now)) (a .s) ld sz (a .table .now) _ _ _ _ _ b z (λ t. none-broken ld (sz .findings) (sz .parts) ch _ low (leb-true _ _ t)) (λ t. early-is-broken ld (sz .findings) (sz .parts) ch _ low (leb-false _ _ t))) (h .1) (h .0),
+      did-loaded (arrays (a .points .now) (a .entries .now) (a .starts .now) (a .firsts .now) (a .stamps .now) (a .findings .now) (a .parts .now) (a .table .now) (a .turned .now)) (a .s) ld sz ch st z (table-length (a .entries .now) (a .starts .now) (a .firsts .now) (a .s .polygons) (a .table .now) _ (ld .layout) (sz .table) (b .table-is)) _ _ _
+          (built-listed (arrays (a .points .now) (a .entries .now) (a .starts .now) (a .firsts .now) (a .stamps .now) (a .findings .now) (a .parts .now) (a .table .now) (a .turned .now)) (a .s) ld sz (a .table .now) _ _ _ _ _ b z)
+          (built-shaped (arrays (a .points .now) (a .entries .now) (a .starts .now) (a .firsts .now) (a .stamps .now) (a .findings .now) (a .parts .now) (a .table .now) (a .turned .now)) (a .s) ld sz (a .table .now) _ _ _ _ _ b z (λ t. none-broken ld (sz .findings) (sz .parts) ch _ low (leb-true _ _ t)) (λ t. early-is-broken ld (sz .findings) (sz .parts) ch _ low (leb-false _ _ t))) (h .1) (h .0),
       record {
         stamps = st;
         turned = z;
         each = ch;
         low = _;
         early = low;
-        table = table-own (arrays (a .points .now) (a .entries .now) (a .starts .now) (a .stamps .now) (a .findings .now) (a .parts .now) (a .table .now) (a .turned .now)) (a .s) (h .0) b;
-        scalars = scalars-own (arrays (a .points .now) (a .entries .now) (a .starts .now) (a .stamps .now) (a .findings .now) (a .parts .now) (a .table .now) (a .turned .now)) (a .s) (h .0);
-        shown = shown-own (arrays (a .points .now) (a .entries .now) (a .starts .now) (a .stamps .now) (a .findings .now) (a .parts .now) (a .table .now) (a .turned .now)) (a .s) (h .0) _ _ (h .1);
+        table = table-own (arrays (a .points .now) (a .entries .now) (a .starts .now) (a .firsts .now) (a .stamps .now) (a .findings .now) (a .parts .now) (a .table .now) (a .turned .now)) (a .s) (h .0) b;
+        scalars = scalars-own (arrays (a .points .now) (a .entries .now) (a .starts .now) (a .firsts .now) (a .stamps .now) (a .findings .now) (a .parts .now) (a .table .now) (a .turned .now)) (a .s) (h .0);
+        shown = shown-own (arrays (a .points .now) (a .entries .now) (a .starts .now) (a .firsts .now) (a .stamps .now) (a .findings .now) (a .parts .now) (a .table .now) (a .turned .now)) (a .s) (h .0) _ _ (h .1);
       },
     )
 

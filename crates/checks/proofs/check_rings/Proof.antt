@@ -3,22 +3,22 @@ use Prim.Native.Nat.{ℕ, _-_, _≤_}
 use mathlib.Core.Path.{_≡_, _∙_, subst}
 use native.Mathlib.Omega.{arith}
 use borrow.Author.Needs.{needs}
-use Rattle.building.specs.laws.Rings.{ring-of}
+use Rattle.building.specs.laws.Rings.{stands-of}
 use Rattle.checks.specs.held.Steps.{Checked}
 use Rattle.checks.specs.laws.Steps.{checked-none, checked-findings, checked-parts, checked-more}
 use Rattle.checks.proofs.check_rings.Statement.{statement}
 use Rattle.checks.proofs.check_rings.Tie as tie
 
 abbrev Inv-loop : tie.InvT-loop
-Inv-loop points entries starts findings₀ parts₀ polygons tolerance i₀ findings parts i = (i ≤ polygons) × Checked tolerance points entries starts i findings₀ parts₀ findings parts
+Inv-loop points entries starts firsts findings₀ parts₀ polygons tolerance i₀ findings parts i = (i ≤ polygons) × Checked tolerance points entries starts firsts i findings₀ parts₀ findings parts
 
 abbrev μ-loop : tie.MeasureT-loop
-μ-loop points entries starts findings₀ parts₀ polygons tolerance i₀ findings parts i = polygons - i
+μ-loop points entries starts firsts findings₀ parts₀ polygons tolerance i₀ findings parts i = polygons - i
 
 loop-holds : tie.Need-loop-holds Inv-loop μ-loop
 loop-holds c =
     let a = c .args in
-    (search needs, checked-none (a .s .tolerance) (a .points .now) (a .entries .now) (a .starts .now))
+    (search needs, checked-none (a .s .tolerance) (a .points .now) (a .entries .now) (a .starts .now) (a .firsts .now))
 
 refresh-requires : tie.Need-refresh-requires Inv-loop μ-loop
 refresh-requires c κs =
@@ -28,12 +28,12 @@ refresh-requires c κs =
     let ld = s .pre .0 in (
       ld .coords,
       (
-        ring-of ld (lp .i) (c .before .before .loop-test .taken),
+        stands-of ld (lp .i) (c .before .before .loop-test .taken),
         (
           ld .tolerant,
           (
-            checked-findings (a .s .tolerance) (a .points .now) (a .entries .now) (a .starts .now) (lp .inv .1) ∙ s .pre .1 .0,
-            checked-parts (a .s .tolerance) (a .points .now) (a .entries .now) (a .starts .now) (lp .inv .1) ∙ s .pre .1 .1,
+            checked-findings (a .s .tolerance) (a .points .now) (a .entries .now) (a .starts .now) (a .firsts .now) (lp .inv .1) ∙ s .pre .1 .0,
+            checked-parts (a .s .tolerance) (a .points .now) (a .entries .now) (a .starts .now) (a .firsts .now) (lp .inv .1) ∙ s .pre .1 .1,
           ),
         ),
       ),
@@ -49,14 +49,14 @@ loop-again : tie.Need-loop-again Inv-loop μ-loop
 loop-again c =
     let a = c .before .before .before .before .before .args in
     let lp = c .before .before .before .before .loop in
-    (search needs, checked-more (a .s .tolerance) (a .points .now) (a .entries .now) (a .starts .now) (lp .inv .1) (c .refresh .ensures))
+    (search needs, checked-more (a .s .tolerance) (a .points .now) (a .entries .now) (a .starts .now) (a .firsts .now) (lp .inv .1) (c .refresh .ensures))
 
 returns : tie.Need-returns Inv-loop μ-loop
 returns c =
     let a = c .before .before .args in
     let lp = c .before .loop in
     let e : lp .i ≡ a .s .polygons = omega arith in
-    subst (λ (m : ℕ). Checked (a .s .tolerance) (a .points .now) (a .entries .now) (a .starts .now) m (a .findings .now) (a .parts .now) (lp .findings) (lp .parts)) e (lp .inv .1)
+    subst (λ (m : ℕ). Checked (a .s .tolerance) (a .points .now) (a .entries .now) (a .starts .now) (a .firsts .now) m (a .findings .now) (a .parts .now) (lp .findings) (lp .parts)) e (lp .inv .1)
 
 pub check-rings-spec : {M : Type 1} → statement M
 check-rings-spec =

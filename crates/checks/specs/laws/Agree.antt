@@ -36,8 +36,8 @@ module _ (a : Arrays) (s : Scalars) where
   load-agrees {findings' = findings'} {findings'' = findings''} {table' = table'} {table'' = table''} {r = r} {r' = r'} w w' =
       let e : findings' ≡ findings'' = agree (w .each .found) (w' .each .found) in
       let l : w .low ≡ w' .low = low-agrees (subst (λ (f : List ℕ). EarlyAt f (s .polygons) (w .low)) e (w .early)) (w' .early) in
-      let t = built-agree (a .entries) (a .starts) (s .polygons) (a .table) table' table'' (r .edges) (r' .edges) (leb (s .polygons) (w .low)) (r .fixed) (r' .fixed) (w .table)
-      (subst (λ (i : ℕ). Built (a .entries) (a .starts) (s .polygons) (a .table) table'' (r' .edges) (leb (s .polygons) i) (r' .fixed)) (sym l) (w' .table)) in
+      let t = built-agree (a .entries) (a .starts) (a .firsts) (s .polygons) (a .table) table' table'' (r .edges) (r' .edges) (leb (s .polygons) (w .low)) (r .fixed) (r' .fixed) (w .table)
+      (subst (λ (i : ℕ). Built (a .entries) (a .starts) (a .firsts) (s .polygons) (a .table) table'' (r' .edges) (leb (s .polygons) i) (r' .fixed)) (sym l) (w' .table)) in
       let u = agree (w .turned) (w' .turned) in
       let h = shown-agrees (t .0) (t .1) u (t .2) (w .shown) (w' .shown) in
       (agree (w .stamps) (w' .stamps), e, agree (w .each .summed) (w' .each .summed), (t .0, w .scalars ∙ (λ j. checked s (t .1 j) (t .2 j) (h j)) ∙ sym (w' .scalars)), u)

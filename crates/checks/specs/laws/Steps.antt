@@ -21,22 +21,22 @@ module _ (l : List ℕ) where
       (λ t. upto-rest (λ p old. 0) 0 l 256 p (ltb-false p 256 t) ∙ List·getD-eq-default l 0 (omega (arith, ltb-false p 256 t)))
 
 -- ---- the first m are checked
-module _ (tolerance : ℕ) (points : List ℤ) (entries starts : List ℕ) where
+module _ (tolerance : ℕ) (points : List ℤ) (entries starts firsts : List ℕ) where
   module _ {findings : List ℕ} {parts : List ℤ} where
-    pub checked-none : Checked tolerance points entries starts 0 findings parts findings parts
+    pub checked-none : Checked tolerance points entries starts firsts 0 findings parts findings parts
     unfolding upto
     checked-none = record { found = refl; summed = refl }
 
-    module _ {m : ℕ} {findings' : List ℕ} {parts' : List ℤ} (ch : Checked tolerance points entries starts m findings parts findings' parts') where
+    module _ {m : ℕ} {findings' : List ℕ} {parts' : List ℤ} (ch : Checked tolerance points entries starts firsts m findings parts findings' parts') where
       pub checked-findings : length findings' ≡ length findings
-      checked-findings = ap length (ch .found) ∙ length-upto (λ p _. keptAt tolerance points entries starts p) 0 findings m
+      checked-findings = ap length (ch .found) ∙ length-upto (λ p _. keptAt tolerance points entries starts firsts p) 0 findings m
 
       pub checked-parts : length parts' ≡ length parts
-      checked-parts = ap length (ch .summed) ∙ length-upto (λ p _. partAt points entries starts p) (pos 0) parts m
+      checked-parts = ap length (ch .summed) ∙ length-upto (λ p _. partAt points entries starts firsts p) (pos 0) parts m
 
-      pub checked-more : {findings'' : List ℕ} {parts'' : List ℤ} → Refreshed tolerance points entries starts m findings' parts' findings'' parts'' → Checked tolerance points entries starts (m + 1) findings parts findings'' parts''
+      pub checked-more : {findings'' : List ℕ} {parts'' : List ℤ} → Refreshed tolerance points entries starts firsts m findings' parts' findings'' parts'' → Checked tolerance points entries starts firsts (m + 1) findings parts findings'' parts''
       checked-more r =
           record {
-            found = r .found ∙ ap (λ (l : List ℕ). set l m (keptAt tolerance points entries starts m)) (ch .found) ∙ upto-more (λ p _. keptAt tolerance points entries starts p) 0 findings m;
-            summed = r .summed ∙ ap (λ (l : List ℤ). set l m (partAt points entries starts m)) (ch .summed) ∙ upto-more (λ p _. partAt points entries starts p) (pos 0) parts m;
+            found = r .found ∙ ap (λ (l : List ℕ). set l m (keptAt tolerance points entries starts firsts m)) (ch .found) ∙ upto-more (λ p _. keptAt tolerance points entries starts firsts p) 0 findings m;
+            summed = r .summed ∙ ap (λ (l : List ℤ). set l m (partAt points entries starts firsts m)) (ch .summed) ∙ upto-more (λ p _. partAt points entries starts firsts p) (pos 0) parts m;
           }

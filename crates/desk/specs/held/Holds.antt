@@ -22,14 +22,14 @@ stateOf Holding t b = holding b
 
 -- the state that the arrays and the scalars hold
 unfoldable pub service : Arrays → Desk → State
-service a d = stateOf (d .mode) (heldTables (a .points) (a .entries) (a .starts) (d .held)) (heldBuilding a (d .held))
+service a d = stateOf (d .mode) (heldTables (a .points) (a .entries) (a .starts) (a .firsts) (d .held)) (heldBuilding a (d .held))
 
 -- what always holds of them; findings, parts and edges are kept while a building is held, and while a load runs the edges' room holds the
 -- points by their places, of which there are none before the first load
 pub record Valid (a : Arrays) (d : Desk) : Type 0 where
-  pub loaded : Loaded (a .points) (a .entries) (a .starts) (d .held)
+  pub loaded : Loaded (a .points) (a .entries) (a .starts) (a .firsts) (d .held)
   pub sizes : Sizes a
-  pub kept : d .mode ≡ Holding → Kept (a .points) (a .entries) (a .starts) (a .findings) (a .parts) (a .table) (a .turned) (d .held)
+  pub kept : d .mode ≡ Holding → Kept (a .points) (a .entries) (a .starts) (a .firsts) (a .findings) (a .parts) (a .table) (a .turned) (d .held)
   pub chained : d .mode ≡ Loading → Chained (a .points) (a .table) (d .held .points)
   pub fresh : d .mode ≡ Nothing → Chained (a .points) (a .table) 0
 

@@ -96,11 +96,11 @@ held-sizes a s h = record { stamps = h .stamped; findings = h .kept .found .size
 module _ (a : Arrays) (d : Desk) (f : Frame) (r : Refusal) (row : r ≡ refusal (service a d) f) (t : isAccepted r ≡ true) where
   pub did-report : (b : Building) → takes (service a d) f ≡ holding b → answerTo f (holding b) ≡ reportOf (b .tables)
       → (a′ : Arrays) (s : Scalars) → B.Did b a′ s
-      → (room room′ : List ℕ) (at : ℕ) → Wrote (ended (reportOf (heldTables (a′ .points) (a′ .entries) (a′ .starts) s))) room (d .at) room′ at
+      → (room room′ : List ℕ) (at : ℕ) → Wrote (ended (reportOf (heldTables (a′ .points) (a′ .entries) (a′ .starts) (a′ .firsts) s))) room (d .at) room′ at
       → Did (does (service a d) f) room (d .at) a′ room′ (record { mode = Holding; held = s; at = at })
   unfolding service stateOf heldBuilding
   did-report b e n a′ s h room room′ at w =
-      let same : heldTables (a′ .points) (a′ .entries) (a′ .starts) s ≡ b .tables = ap (λ (q : Building). q .tables) (h .is) in
+      let same : heldTables (a′ .points) (a′ .entries) (a′ .starts) (a′ .firsts) s ≡ b .tables = ap (λ (q : Building). q .tables) (h .is) in
       did-accepted (service a d) f r room room′ (d .at) a′ (record { mode = Holding; held = s; at = at }) row t
       (record { loaded = h .held .loaded; sizes = held-sizes a′ s (h .held); kept = λ _. h .held .kept; chained = λ q. absurd (not-loads q); fresh = λ q. absurd (holding-not-nothing q) })
       (ap holding (h .is) ∙ sym e)

@@ -68,7 +68,7 @@ loads-is Holding e = absurd (false≢true e)
 module _ (a : Arrays) (d : Desk) where
   -- the tables of a load
   abbrev pub tables : Tables
-  tables = heldTables (a .points) (a .entries) (a .starts) (d .held)
+  tables = heldTables (a .points) (a .entries) (a .starts) (a .firsts) (d .held)
 
   pub service-loads : loads (d .mode) ≡ true → service a d ≡ loading tables
   unfolding service

@@ -29,7 +29,7 @@ returns : tie.Need-returns
 returns c =
     let g = c .before .before .before .before .before .before .before .before .before .before .before .before .before .before .before .before .before .before .before .args in
     let v = c .before .before .before .before .before .before .before .before .before .before .before .before .before .before .before .before .before .before .before .pre .1 in
-    let w : Arrays = arrays (g .points .now) (g .entries .now) (g .starts .now) (g .stamps .now) (g .findings .now) (g .parts .now) (g .table .now) (g .turned .now) in
+    let w : Arrays = arrays (g .points .now) (g .entries .now) (g .starts .now) (g .firsts .now) (g .stamps .now) (g .findings .now) (g .parts .now) (g .table .now) (g .turned .now) in
     did-end w (g .d) v (c .before .before .before .before .before .before .before .before .before .before .before .before .before .before .before .before .before .of-end .result) (c .before .before .before .before .before .before .before .before .before .before .before .before .before .before .before .before .before .of-end .ensures .is w tt v) (sym (c .before .before .before .before .before .before .before .before .before .before .before .before .before .before .before .before .is-accepted .ensures) ∙ c .before .before .before .before .before .before .before .before .before .before .before .before .before .before .before .if1 .taken) _ _ (c .before .before .before .before .before .before .before .before .check-all .ensures .0) (g .room .now) _ _ (c .before .before .put-report .ensures)
 
 refuse-requires : tie.Need-refuse-requires
@@ -42,7 +42,7 @@ returns-2 : tie.Need-returns-2
 returns-2 c =
     let g = c .before .before .before .before .before .before .before .before .args in
     let v = c .before .before .before .before .before .before .before .before .pre .1 in
-    let w : Arrays = arrays (g .points .now) (g .entries .now) (g .starts .now) (g .stamps .now) (g .findings .now) (g .parts .now) (g .table .now) (g .turned .now) in
+    let w : Arrays = arrays (g .points .now) (g .entries .now) (g .starts .now) (g .firsts .now) (g .stamps .now) (g .findings .now) (g .parts .now) (g .table .now) (g .turned .now) in
     did-refused w (g .d) v end-of-load (c .before .before .before .before .before .before .of-end .result) (g .room .now) _ _ (c .before .before .before .before .before .before .of-end .ensures .is w tt v) (sym (c .before .before .before .before .before .is-accepted .ensures) ∙ c .before .before .before .before .if1 .left) (c .before .before .refuse .ensures w v)
 
 pub end-load-spec : {M : Type 1} → statement M

@@ -25,7 +25,7 @@ module _ (a : Arrays) (d : Desk) (v : Valid a d) (r : Refusal) (row : r ≡ refu
   end-loads = loading-mode (d .mode) (tables a d) (heldBuilding a (d .held)) (passed-row (service a d) end-of-load r row t .placed)
 
   pub did-end : (a′ : Arrays) (s : Scalars) → B.Did (loaded (tables a d)) a′ s
-      → (room room′ : List ℕ) (at : ℕ) → Wrote (ended (reportOf (heldTables (a′ .points) (a′ .entries) (a′ .starts) s))) room (d .at) room′ at
+      → (room room′ : List ℕ) (at : ℕ) → Wrote (ended (reportOf (heldTables (a′ .points) (a′ .entries) (a′ .starts) (a′ .firsts) s))) room (d .at) room′ at
       → Did (does (service a d) end-of-load) room (d .at) a′ room′ (record { mode = Holding; held = s; at = at })
   unfolding takes answerTo tablesOf loaded
   did-end = did-report a d end-of-load r row t (loaded (tables a d)) (ap (λ (st : State). takes st end-of-load) (service-loads a d end-loads)) refl

@@ -26,7 +26,7 @@ unchained Holding table = zeroed table 512
 -- the arrays with other points and another table
 abbrev pub withPoints : List ℤ → List ℕ → Arrays → Arrays
 withPoints points table a =
-    record { points = points; entries = a .entries; starts = a .starts; stamps = a .stamps; findings = a .findings; parts = a .parts; table = table; turned = a .turned }
+    record { points = points; entries = a .entries; starts = a .starts; firsts = a .firsts; stamps = a .stamps; findings = a .findings; parts = a .parts; table = table; turned = a .turned }
 
 -- what a point more asks of the arrays that it changes
 pub record Placing (points : List ℤ) (table : List ℕ) (d : Desk) : Type 0 where

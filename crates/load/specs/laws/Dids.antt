@@ -58,13 +58,13 @@ module _ (a : Arrays) (d : Desk) (v : Valid a d) (tolerance : ℕ) where
       did-accepted (service a d) (begin tolerance) Accepted room room′ (d .at) (withPoints (a .points) table a) (begunDesk at)
       (sym (of-begin (service a d) tolerance ∙ (rw (le-ltb 1000 tolerance h)))) refl
       (record {
-        loaded = loaded-begun (a .points) (a .entries) (a .starts) tolerance 0 0 Whole Whole (v .loaded .coords) (v .loaded .entered .size) (v .loaded .begins .size) (v .loaded .first) h;
+        loaded = loaded-begun (a .points) (a .entries) (a .starts) (a .firsts) tolerance 0 0 Whole Whole (v .loaded .coords) (v .loaded .entered .size) (v .loaded .layout .starts-size) (v .loaded .layout .firsts-size) (v .loaded .first) (v .loaded .layout .begin) h;
         sizes = record { stamps = v .sizes .stamps; findings = v .sizes .findings; parts = v .sizes .parts; table = ch .size; turned = v .sizes .turned };
         kept = λ q. absurd (not-held q);
         chained = λ q. ch;
         fresh = λ q. absurd (loading-not-nothing q);
       })
-      (ap loading (tables-begun (a .points) (a .entries) (a .starts) tolerance 0 0 Whole Whole))
+      (ap loading (tables-begun (a .points) (a .entries) (a .starts) (a .firsts) tolerance 0 0 Whole Whole))
       w
 
   pub did-begin-beyond : 1000 < tolerance → (room room′ : List ℕ) (d′ : Desk) → Did (refused Beyond (service a d)) room (d .at) a room′ d′ → Did (does (service a d) (begin tolerance)) room (d .at) a room′ d′
@@ -105,14 +105,14 @@ module _ (a : Arrays) (d : Desk) (v : Valid a d) (x y z : ℤ) (r : Refusal) (ro
       let ch : Chained points table (d .held .points + 1) = point-chains few points table e f in
       did-accepted (service a d) (point x y z) r room room′ (d .at) (withPoints points table a) (pointDesk at) row t
       (record {
-        loaded = subst (λ (q : List ℤ). Loaded q (a .entries) (a .starts) (pointDesk at .held)) (sym e)
+        loaded = subst (λ (q : List ℤ). Loaded q (a .entries) (a .starts) (a .firsts) (pointDesk at .held)) (sym e)
             (loaded-point (v .loaded) (point3 x y z) few (d .held .last) (d .held .edges) Whole Whole (point-passed .within));
         sizes = record { stamps = v .sizes .stamps; findings = v .sizes .findings; parts = v .sizes .parts; table = ch .size; turned = v .sizes .turned };
         kept = λ q. absurd (not-held q);
         chained = λ q. ch;
         fresh = λ q. absurd (loading-not-nothing q);
       })
-      (ap (λ (q : List ℤ). loading (heldTables q (a .entries) (a .starts) (pointDesk at .held))) e
+      (ap (λ (q : List ℤ). loading (heldTables q (a .entries) (a .starts) (a .firsts) (pointDesk at .held))) e
       ∙ ap loading (tables-point (v .loaded) (point3 x y z) few (d .held .last) (d .held .edges) Whole Whole)
       ∙ ap (λ (st : State). takes st (point x y z)) (sym (service-loads a d point-loads)))
       w

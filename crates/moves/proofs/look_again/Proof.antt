@@ -10,17 +10,17 @@ use Rattle.moves.proofs.look_again.Statement.{statement}
 use Rattle.moves.proofs.look_again.Tie as tie
 
 abbrev Inv-loop : tie.InvT-loop
-Inv-loop points entries starts stamps₀ findings₀ parts₀ s n number polygons p₀ stamps findings parts p =
-    (p ≤ polygons) × Looked (s .tolerance) points entries starts number n p stamps₀ findings₀ parts₀ stamps findings parts
+Inv-loop points entries starts firsts stamps₀ findings₀ parts₀ s n number polygons p₀ stamps findings parts p =
+    (p ≤ polygons) × Looked (s .tolerance) points entries starts firsts number n p stamps₀ findings₀ parts₀ stamps findings parts
 
 abbrev μ-loop : tie.MeasureT-loop
-μ-loop points entries starts stamps₀ findings₀ parts₀ s n number polygons p₀ stamps findings parts p =
+μ-loop points entries starts firsts stamps₀ findings₀ parts₀ s n number polygons p₀ stamps findings parts p =
     polygons - p
 
 loop-holds : tie.Need-loop-holds Inv-loop μ-loop
 loop-holds c =
     let a = c .args in
-    (search needs, looked-none (a .s .tolerance) (a .points .now) (a .entries .now) (a .starts .now) (a .number) (a .n))
+    (search needs, looked-none (a .s .tolerance) (a .points .now) (a .entries .now) (a .starts .now) (a .firsts .now) (a .number) (a .n))
 
 group-end-requires : tie.Need-group-end-requires Inv-loop μ-loop
 group-end-requires c κs = search needs
@@ -37,10 +37,10 @@ look-through-requires c κs =
         (
           e .1,
           (
-            looked-stamps (a .s .tolerance) (a .points .now) (a .entries .now) (a .starts .now) (a .number) (a .n) i ∙ s .pre .1 .0,
+            looked-stamps (a .s .tolerance) (a .points .now) (a .entries .now) (a .starts .now) (a .firsts .now) (a .number) (a .n) i ∙ s .pre .1 .0,
             (
-              looked-findings (a .s .tolerance) (a .points .now) (a .entries .now) (a .starts .now) (a .number) (a .n) i ∙ s .pre .1 .1 .0,
-              looked-parts (a .s .tolerance) (a .points .now) (a .entries .now) (a .starts .now) (a .number) (a .n) i ∙ s .pre .1 .1 .1,
+              looked-findings (a .s .tolerance) (a .points .now) (a .entries .now) (a .starts .now) (a .firsts .now) (a .number) (a .n) i ∙ s .pre .1 .1 .0,
+              looked-parts (a .s .tolerance) (a .points .now) (a .entries .now) (a .starts .now) (a .firsts .now) (a .number) (a .n) i ∙ s .pre .1 .1 .1,
             ),
           ),
         ),
@@ -55,14 +55,14 @@ loop-again c =
     let a = c .before .before .before .before .before .before .before .args in
     let lp = c .before .before .before .before .before .before .loop in
     let e = c .before .before .before .before .group-end .ensures in
-    (e .1, looked-joined (a .s .tolerance) (a .points .now) (a .entries .now) (a .starts .now) (a .number) (a .n) (lp .p) (c .look-through .ensures) (omega (arith, e .0)) (lp .inv .1))
+    (e .1, looked-joined (a .s .tolerance) (a .points .now) (a .entries .now) (a .starts .now) (a .firsts .now) (a .number) (a .n) (lp .p) (c .look-through .ensures) (omega (arith, e .0)) (lp .inv .1))
 
 returns : tie.Need-returns Inv-loop μ-loop
 returns c =
     let a = c .before .before .args in
     let lp = c .before .loop in
     let e : lp .p ≡ a .s .polygons = omega arith in
-    subst (λ (m : ℕ). Looked (a .s .tolerance) (a .points .now) (a .entries .now) (a .starts .now) (a .number) (a .n) m (a .stamps .now) (a .findings .now) (a .parts .now) (lp .stamps) (lp .findings) (lp .parts)) e (lp .inv .1)
+    subst (λ (m : ℕ). Looked (a .s .tolerance) (a .points .now) (a .entries .now) (a .starts .now) (a .firsts .now) (a .number) (a .n) m (a .stamps .now) (a .findings .now) (a .parts .now) (lp .stamps) (lp .findings) (lp .parts)) e (lp .inv .1)
 
 pub look-again-spec : {M : Type 1} → statement M
 look-again-spec =

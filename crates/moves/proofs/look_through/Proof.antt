@@ -20,8 +20,8 @@ returns-2 c =
     let s = c .before .before in
     let a = s .args in
     let ld = s .pre .0 in
-    looked-from-same (a .s .tolerance) (a .points .now) (a .entries .now) (a .starts .now) (a .number) (a .n) (a .from) (a .to)
-    (none-listed (a .entries .now) (a .starts .now) (a .s .polygons) (ld .begins) (ld .entered .size) (a .n) (a .from) (a .to) (s .pre .1 .1 .0) (sym (c .before .uses .ensures) ∙ c .if1 .left))
+    looked-from-same (a .s .tolerance) (a .points .now) (a .entries .now) (a .starts .now) (a .firsts .now) (a .number) (a .n) (a .from) (a .to)
+    (none-listed ld (a .n) (a .from) (a .to) (s .pre .1 .1 .0) (sym (c .before .uses .ensures) ∙ c .if1 .left))
 
 pub look-through-spec : {M : Type 1} → statement M
 look-through-spec = tie.close (tie.spec uses-requires look-at-each-requires returns returns-2)

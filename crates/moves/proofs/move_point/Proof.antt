@@ -24,7 +24,7 @@ look-again-requires c κs =
     let h = s .pre .0 in
     let p = point3 (a .x) (a .y) (a .z) in
     let e = c .before .before .before .before .place .ensures ∙ ap (λ (q : Point). placed (a .points .now) (a .n) q) (near-bits (a .x) (a .y) (a .z) (s .pre .1 .1)) in
-    (subst (λ (l : List ℤ). Loaded l (a .entries .now) (a .starts .now) (a .s)) (sym e) (moved-loaded (h .loaded) (a .n) p (near-place p (s .pre .1 .1))), (h .stamped, (h .kept .found .size, h .kept .summed .size)))
+    (subst (λ (l : List ℤ). Loaded l (a .entries .now) (a .starts .now) (a .firsts .now) (a .s)) (sym e) (moved-loaded (h .loaded) (a .n) p (near-place p (s .pre .1 .1))), (h .stamped, (h .kept .found .size, h .kept .summed .size)))
 
 returns : tie.Need-returns
 returns c =
@@ -32,7 +32,7 @@ returns c =
     let a = s .args in
     let p = point3 (a .x) (a .y) (a .z) in
     let e = c .before .before .before .before .before .place .ensures ∙ ap (λ (q : Point). placed (a .points .now) (a .n) q) (near-bits (a .x) (a .y) (a .z) (s .pre .1 .1)) in (
-      did-moved (arrays (a .points .now) (a .entries .now) (a .starts .now) (a .stamps .now) (a .findings .now) (a .parts .now) (a .table .now) (a .turned .now)) (a .s) (s .pre .0) (a .number) (a .n) p (s .pre .1 .0) (near-place p (s .pre .1 .1)) e (c .look-again .ensures),
+      did-moved (arrays (a .points .now) (a .entries .now) (a .starts .now) (a .firsts .now) (a .stamps .now) (a .findings .now) (a .parts .now) (a .table .now) (a .turned .now)) (a .s) (s .pre .0) (a .number) (a .n) p (s .pre .1 .0) (near-place p (s .pre .1 .1)) e (c .look-again .ensures),
       record { points = e; looked = c .look-again .ensures; scalars = refl },
     )
 

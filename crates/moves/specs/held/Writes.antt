@@ -13,5 +13,5 @@ module _ (a : Arrays) (s : Scalars) where
   -- a move: one place, and stamp, finding and part of each polygon that lists the point
   pub record MoveWrites (number n : ℕ) (p : Point) (points' : List ℤ) (stamps' findings' : List ℕ) (parts' : List ℤ) (r : Scalars) : Type 0 where
     pub points : points' ≡ placed (a .points) n p
-    pub looked : Looked (s .tolerance) points' (a .entries) (a .starts) number n (s .polygons) (a .stamps) (a .findings) (a .parts) stamps' findings' parts'
+    pub looked : Looked (s .tolerance) points' (a .entries) (a .starts) (a .firsts) number n (s .polygons) (a .stamps) (a .findings) (a .parts) stamps' findings' parts'
     pub scalars : r ≡ corrected s number (s .shape)

@@ -21,7 +21,7 @@ module _ (a : Arrays) (s : Scalars) where
     move-agrees = (
       same,
       agree (m .looked .stamped) (m' .looked .stamped),
-      m .looked .found ∙ ap (λ (l : List ℤ). upto (refind (s .tolerance) l (a .entries) (a .starts) n) 0 (a .findings) (s .polygons)) same ∙ sym (m' .looked .found),
-      m .looked .summed ∙ ap (λ (l : List ℤ). upto (repart l (a .entries) (a .starts) n) (pos 0) (a .parts) (s .polygons)) same ∙ sym (m' .looked .summed),
+      m .looked .found ∙ ap (λ (l : List ℤ). upto (refind (s .tolerance) l (a .entries) (a .starts) (a .firsts) n) 0 (a .findings) (s .polygons)) same ∙ sym (m' .looked .found),
+      m .looked .summed ∙ ap (λ (l : List ℤ). upto (repart l (a .entries) (a .starts) (a .firsts) n) (pos 0) (a .parts) (s .polygons)) same ∙ sym (m' .looked .summed),
       agree (m .scalars) (m' .scalars),
     )

@@ -30,18 +30,6 @@ element-copy-out-to c = search needs
 cast-to : tie.Need-cast-to
 cast-to c = search needs
 
-mul-ring : tie.Need-mul-ring
-mul-ring c = search needs
-
-sub-ring : tie.Need-sub-ring
-sub-ring c = search needs
-
-part-ring-start : tie.Need-part-ring-start
-part-ring-start c = search needs
-
-part-ring-end : tie.Need-part-ring-end
-part-ring-end c = search needs
-
 look-at-requires : tie.Need-look-at-requires
 look-at-requires c κs = search needs
 
@@ -59,7 +47,7 @@ element-set-from-part c = search needs
 
 returns : tie.Need-returns
 returns c =
-    let a = c .before .before .before .before .before .before .args in
+    let a = c .before .before .before .before .args in
     let l = c .before .look-at .ensures in
     record {
       found = ap (λ (v : ℕ). set (a .findings .now) (a .p) v) (l .0);
@@ -77,10 +65,6 @@ refresh-spec =
     mul-to
     element-copy-out-to
     cast-to
-    mul-ring
-    sub-ring
-    part-ring-start
-    part-ring-end
     look-at-requires
     mul-findings
     element-write-findings

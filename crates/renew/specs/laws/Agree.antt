@@ -6,6 +6,6 @@ use lib.IntN.{ℤ}
 use Rattle.whole.specs.laws.Agree.{agree}
 use Rattle.renew.specs.held.Renewed.{Refreshed}
 
-pub refresh-agrees : {tolerance : ℕ} {points : List ℤ} {entries starts : List ℕ} {p : ℕ} {findings findings' findings'' : List ℕ} {parts parts' parts'' : List ℤ} → Refreshed tolerance points entries starts p findings parts findings' parts' → Refreshed tolerance points entries starts p findings parts findings'' parts''
+pub refresh-agrees : {tolerance : ℕ} {points : List ℤ} {entries starts firsts : List ℕ} {p : ℕ} {findings findings' findings'' : List ℕ} {parts parts' parts'' : List ℤ} → Refreshed tolerance points entries starts firsts p findings parts findings' parts' → Refreshed tolerance points entries starts firsts p findings parts findings'' parts''
     → (findings' ≡ findings'') × (parts' ≡ parts'')
 refresh-agrees r r' = (agree (r .found) (r' .found), agree (r .summed) (r' .summed))

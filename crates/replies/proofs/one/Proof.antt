@@ -17,6 +17,7 @@ use mir.Facts.{toZ-ofZ}
 use Rattle.building.specs.held.Holds.{Arrays, arrays}
 use mathlib.Core.Path.{_≡_, refl, sym, ap, _∙_}
 use borrow.Author.Needs.{needs}
+use Rattle.rings.specs.laws.Dids.{ends-of}
 use Rattle.replies.proofs.one.Statement.{statement}
 use Rattle.replies.proofs.one.Tie as tie
 
@@ -40,10 +41,10 @@ enum-known-f-3 c = search needs
 
 add-polygon-requires : tie.Need-add-polygon-requires
 add-polygon-requires c κs =
-    let g = c .before .before .before .before .before .before .before .before .before .args in
-    let v = c .before .before .before .before .before .before .before .before .before .pre .1 in
-    let e : meaning (Polygon (c .before .before .before .before .f3 .given .0 .0)) (g .line .now) ≡ decode (g .line .now) = sym (ap (λ (q : Fields). meaning q (g .line .now)) (c .before .before .before .before .f3 .given .1)) ∙ c .before .before .before .before .before .before .decode .ensures in
-    (c .before .before .before .before .before .before .before .before .before .pre .0, (record { count = polygon-count (g .line .now) _ e; few = polygon-few (g .line .now) _ e; listed = polygon-listed (g .line .now) _ e }, (v .loaded .entered .size, v .loaded .begins)))
+    let g = c .before .before .before .before .before .before .before .before .before .before .args in
+    let v = c .before .before .before .before .before .before .before .before .before .before .pre .1 in
+    let e : meaning (Polygon (c .before .before .before .before .before .f3 .given .0 .0)) (g .line .now) ≡ decode (g .line .now) = sym (ap (λ (q : Fields). meaning q (g .line .now)) (c .before .before .before .before .before .f3 .given .1)) ∙ c .before .before .before .before .before .before .before .decode .ensures in
+    (c .before .before .before .before .before .before .before .before .before .before .pre .0, (record { count = polygon-count (g .line .now) _ e; few = polygon-few (g .line .now) _ e; listed = polygon-listed (g .line .now) _ e }, (v .loaded .entered .size, ends-of (v .loaded))))
 
 enum-told : tie.Need-enum-told
 enum-told c = search needs
@@ -85,7 +86,7 @@ ask-requires-2 : tie.Need-ask-requires-2
 ask-requires-2 c κs =
     let s = c .before .before .before .before .before .before .before .before in
     let g = s .args in
-    (s .pre .0, valid-sorted (arrays (g .points .now) (g .entries .now) (g .starts .now) (g .stamps .now) (g .findings .now) (g .parts .now) (g .table .now) (g .turned .now)) (g .d) (s .pre .1))
+    (s .pre .0, valid-sorted (arrays (g .points .now) (g .entries .now) (g .starts .now) (g .firsts .now) (g .stamps .now) (g .findings .now) (g .parts .now) (g .table .now) (g .turned .now)) (g .d) (s .pre .1))
 
 enum-told-2 : tie.Need-enum-told-2
 enum-told-2 c = search needs
@@ -101,7 +102,7 @@ unfolding meaning
 returns c =
     let g = c .before .before .before .before .before .before .before .before .before .before .before .args in
     let v = c .before .before .before .before .before .before .before .before .before .before .before .pre .1 in
-    let w : Arrays = arrays (g .points .now) (g .entries .now) (g .starts .now) (g .stamps .now) (g .findings .now) (g .parts .now) (g .table .now) (g .turned .now) in
+    let w : Arrays = arrays (g .points .now) (g .entries .now) (g .starts .now) (g .firsts .now) (g .stamps .now) (g .findings .now) (g .parts .now) (g .table .now) (g .turned .now) in
     did-step (service w (g .d)) (g .line .now) (begin (c .before .before .before .before .before .before .f .given .0 .0)) (g .room .now) _ (g .d .at) _ _ (sym (ap (λ (q : Fields). meaning q (g .line .now)) (c .before .before .before .before .before .before .f .given .1)) ∙ c .before .before .before .before .before .before .before .before .decode .ensures) (c .before .before .begin .ensures w refl v)
 
 same-length-2 : tie.Need-same-length-2
@@ -112,7 +113,7 @@ unfolding meaning
 returns-2 c =
     let g = c .before .before .before .before .before .before .before .before .before .before .before .before .args in
     let v = c .before .before .before .before .before .before .before .before .before .before .before .before .pre .1 in
-    let w : Arrays = arrays (g .points .now) (g .entries .now) (g .starts .now) (g .stamps .now) (g .findings .now) (g .parts .now) (g .table .now) (g .turned .now) in
+    let w : Arrays = arrays (g .points .now) (g .entries .now) (g .starts .now) (g .firsts .now) (g .stamps .now) (g .findings .now) (g .parts .now) (g .table .now) (g .turned .now) in
     did-step (service w (g .d)) (g .line .now) _ (g .room .now) _ (g .d .at) _ _
     ((λ i. point (toZ-ofZ {w = w64} {z = c .before .before .before .before .before .before .before .f2 .given .0 .0} (record { sfits = c .before .before .before .before .before .before .known-told2 .given .0 .1 }) i) (toZ-ofZ {w = w64} {z = c .before .before .before .before .before .before .before .f2 .given .0 .1 .0} (record { sfits = c .before .before .before .before .before .before .known-told2 .given .1 .0 .1 }) i) (toZ-ofZ {w = w64} {z = c .before .before .before .before .before .before .before .f2 .given .0 .1 .1 .0} (record { sfits = c .before .before .before .before .before .before .known-told2 .given .1 .1 .0 .1 }) i)) ∙ sym (ap (λ (q : Fields). meaning q (g .line .now)) (c .before .before .before .before .before .before .before .f2 .given .1)) ∙ c .before .before .before .before .before .before .before .before .before .decode .ensures)
     (c .before .before .add-point .ensures w refl refl v)
@@ -122,11 +123,11 @@ same-length-3 c = search needs
 
 returns-3 : tie.Need-returns-3
 returns-3 c =
-    let g = c .before .before .before .before .before .before .before .before .before .before .before .before .args in
-    let v = c .before .before .before .before .before .before .before .before .before .before .before .before .pre .1 in
-    let w : Arrays = arrays (g .points .now) (g .entries .now) (g .starts .now) (g .stamps .now) (g .findings .now) (g .parts .now) (g .table .now) (g .turned .now) in
-    let e : meaning (Polygon (c .before .before .before .before .before .before .before .f3 .given .0 .0)) (g .line .now) ≡ decode (g .line .now) = sym (ap (λ (q : Fields). meaning q (g .line .now)) (c .before .before .before .before .before .before .before .f3 .given .1)) ∙ c .before .before .before .before .before .before .before .before .before .decode .ensures in
-    did-step (service w (g .d)) (g .line .now) (polygon (numbers (drop 2 (g .line .now)))) (g .room .now) _ (g .d .at) _ _ (sym (polygon-ring (g .line .now) _ e)) (c .before .before .add-polygon .ensures w refl refl v)
+    let g = c .before .before .before .before .before .before .before .before .before .before .before .before .before .args in
+    let v = c .before .before .before .before .before .before .before .before .before .before .before .before .before .pre .1 in
+    let w : Arrays = arrays (g .points .now) (g .entries .now) (g .starts .now) (g .firsts .now) (g .stamps .now) (g .findings .now) (g .parts .now) (g .table .now) (g .turned .now) in
+    let e : meaning (Polygon (c .before .before .before .before .before .before .before .before .f3 .given .0 .0)) (g .line .now) ≡ decode (g .line .now) = sym (ap (λ (q : Fields). meaning q (g .line .now)) (c .before .before .before .before .before .before .before .before .f3 .given .1)) ∙ c .before .before .before .before .before .before .before .before .before .before .decode .ensures in
+    did-step (service w (g .d)) (g .line .now) (polygon (numbers (drop 2 (g .line .now)))) (g .room .now) _ (g .d .at) _ _ (sym (polygon-ring (g .line .now) _ e)) (c .before .before .add-polygon .ensures w refl refl refl v)
 
 same-length-4 : tie.Need-same-length-4
 same-length-4 c = search needs
@@ -134,10 +135,10 @@ same-length-4 c = search needs
 returns-4 : tie.Need-returns-4
 unfolding meaning
 returns-4 c =
-    let g = c .before .before .before .before .before .before .before .before .before .before .before .before .before .before .before .before .before .args in
-    let v = c .before .before .before .before .before .before .before .before .before .before .before .before .before .before .before .before .before .pre .1 in
-    let w : Arrays = arrays (g .points .now) (g .entries .now) (g .starts .now) (g .stamps .now) (g .findings .now) (g .parts .now) (g .table .now) (g .turned .now) in
-    did-step (service w (g .d)) (g .line .now) end-of-load (g .room .now) _ (g .d .at) _ _ (sym (ap (λ (q : Fields). meaning q (g .line .now)) (c .before .before .before .before .before .before .before .before .before .before .before .before .enum-told .given .1)) ∙ c .before .before .before .before .before .before .before .before .before .before .before .before .before .before .decode .ensures) (c .before .before .end-load .ensures)
+    let g = c .before .before .before .before .before .before .before .before .before .before .before .before .before .before .before .before .before .before .args in
+    let v = c .before .before .before .before .before .before .before .before .before .before .before .before .before .before .before .before .before .before .pre .1 in
+    let w : Arrays = arrays (g .points .now) (g .entries .now) (g .starts .now) (g .firsts .now) (g .stamps .now) (g .findings .now) (g .parts .now) (g .table .now) (g .turned .now) in
+    did-step (service w (g .d)) (g .line .now) end-of-load (g .room .now) _ (g .d .at) _ _ (sym (ap (λ (q : Fields). meaning q (g .line .now)) (c .before .before .before .before .before .before .before .before .before .before .before .before .before .enum-told .given .1)) ∙ c .before .before .before .before .before .before .before .before .before .before .before .before .before .before .before .decode .ensures) (c .before .before .end-load .ensures)
 
 same-length-5 : tie.Need-same-length-5
 same-length-5 c = search needs
@@ -145,11 +146,11 @@ same-length-5 c = search needs
 returns-5 : tie.Need-returns-5
 unfolding meaning
 returns-5 c =
-    let g = c .before .before .before .before .before .before .before .before .before .before .before .before .before .before .before .before .before .before .args in
-    let v = c .before .before .before .before .before .before .before .before .before .before .before .before .before .before .before .before .before .before .pre .1 in
-    let w : Arrays = arrays (g .points .now) (g .entries .now) (g .starts .now) (g .stamps .now) (g .findings .now) (g .parts .now) (g .table .now) (g .turned .now) in
+    let g = c .before .before .before .before .before .before .before .before .before .before .before .before .before .before .before .before .before .before .before .args in
+    let v = c .before .before .before .before .before .before .before .before .before .before .before .before .before .before .before .before .before .before .before .pre .1 in
+    let w : Arrays = arrays (g .points .now) (g .entries .now) (g .starts .now) (g .firsts .now) (g .stamps .now) (g .findings .now) (g .parts .now) (g .table .now) (g .turned .now) in
     did-step (service w (g .d)) (g .line .now) _ (g .room .now) _ (g .d .at) _ _
-    ((λ i. move (c .before .before .before .before .before .before .before .before .before .before .before .before .before .f4 .given .0 .0) (c .before .before .before .before .before .before .before .before .before .before .before .before .before .f4 .given .0 .1 .0) (toZ-ofZ {w = w64} {z = c .before .before .before .before .before .before .before .before .before .before .before .before .before .f4 .given .0 .1 .1 .0} (record { sfits = c .before .before .before .before .before .before .before .before .before .before .before .before .known-told4 .given .1 .1 .0 .1 }) i) (toZ-ofZ {w = w64} {z = c .before .before .before .before .before .before .before .before .before .before .before .before .before .f4 .given .0 .1 .1 .1 .0} (record { sfits = c .before .before .before .before .before .before .before .before .before .before .before .before .known-told4 .given .1 .1 .1 .0 .1 }) i) (toZ-ofZ {w = w64} {z = c .before .before .before .before .before .before .before .before .before .before .before .before .before .f4 .given .0 .1 .1 .1 .1 .0} (record { sfits = c .before .before .before .before .before .before .before .before .before .before .before .before .known-told4 .given .1 .1 .1 .1 .0 .1 }) i)) ∙ sym (ap (λ (q : Fields). meaning q (g .line .now)) (c .before .before .before .before .before .before .before .before .before .before .before .before .before .f4 .given .1)) ∙ c .before .before .before .before .before .before .before .before .before .before .before .before .before .before .before .decode .ensures)
+    ((λ i. move (c .before .before .before .before .before .before .before .before .before .before .before .before .before .before .f4 .given .0 .0) (c .before .before .before .before .before .before .before .before .before .before .before .before .before .before .f4 .given .0 .1 .0) (toZ-ofZ {w = w64} {z = c .before .before .before .before .before .before .before .before .before .before .before .before .before .before .f4 .given .0 .1 .1 .0} (record { sfits = c .before .before .before .before .before .before .before .before .before .before .before .before .before .known-told4 .given .1 .1 .0 .1 }) i) (toZ-ofZ {w = w64} {z = c .before .before .before .before .before .before .before .before .before .before .before .before .before .before .f4 .given .0 .1 .1 .1 .0} (record { sfits = c .before .before .before .before .before .before .before .before .before .before .before .before .before .known-told4 .given .1 .1 .1 .0 .1 }) i) (toZ-ofZ {w = w64} {z = c .before .before .before .before .before .before .before .before .before .before .before .before .before .before .f4 .given .0 .1 .1 .1 .1 .0} (record { sfits = c .before .before .before .before .before .before .before .before .before .before .before .before .before .known-told4 .given .1 .1 .1 .1 .0 .1 }) i)) ∙ sym (ap (λ (q : Fields). meaning q (g .line .now)) (c .before .before .before .before .before .before .before .before .before .before .before .before .before .before .f4 .given .1)) ∙ c .before .before .before .before .before .before .before .before .before .before .before .before .before .before .before .before .decode .ensures)
     (c .before .before .move-point .ensures)
 
 same-length-6 : tie.Need-same-length-6
@@ -158,10 +159,10 @@ same-length-6 c = search needs
 returns-6 : tie.Need-returns-6
 unfolding meaning
 returns-6 c =
-    let g = c .before .before .before .before .before .before .before .before .before .before .before .before .before .before .before .before .before .before .args in
-    let v = c .before .before .before .before .before .before .before .before .before .before .before .before .before .before .before .before .before .before .pre .1 in
-    let w : Arrays = arrays (g .points .now) (g .entries .now) (g .starts .now) (g .stamps .now) (g .findings .now) (g .parts .now) (g .table .now) (g .turned .now) in
-    did-step (service w (g .d)) (g .line .now) _ (g .room .now) _ (g .d .at) _ _ (sym (ap (λ (q : Fields). meaning q (g .line .now)) (c .before .before .before .before .before .before .before .before .before .before .before .before .before .f5 .given .1)) ∙ c .before .before .before .before .before .before .before .before .before .before .before .before .before .before .before .decode .ensures) (c .before .before .turn-polygon .ensures)
+    let g = c .before .before .before .before .before .before .before .before .before .before .before .before .before .before .before .before .before .before .before .args in
+    let v = c .before .before .before .before .before .before .before .before .before .before .before .before .before .before .before .before .before .before .before .pre .1 in
+    let w : Arrays = arrays (g .points .now) (g .entries .now) (g .starts .now) (g .firsts .now) (g .stamps .now) (g .findings .now) (g .parts .now) (g .table .now) (g .turned .now) in
+    did-step (service w (g .d)) (g .line .now) _ (g .room .now) _ (g .d .at) _ _ (sym (ap (λ (q : Fields). meaning q (g .line .now)) (c .before .before .before .before .before .before .before .before .before .before .before .before .before .before .f5 .given .1)) ∙ c .before .before .before .before .before .before .before .before .before .before .before .before .before .before .before .before .decode .ensures) (c .before .before .turn-polygon .ensures)
 
 same-length-7 : tie.Need-same-length-7
 same-length-7 c = search needs
@@ -171,7 +172,7 @@ unfolding meaning
 returns-7 c =
     let g = c .before .before .before .before .before .before .before .before .before .before .before .before .before .args in
     let v = c .before .before .before .before .before .before .before .before .before .before .before .before .before .pre .1 in
-    let w : Arrays = arrays (g .points .now) (g .entries .now) (g .starts .now) (g .stamps .now) (g .findings .now) (g .parts .now) (g .table .now) (g .turned .now) in
+    let w : Arrays = arrays (g .points .now) (g .entries .now) (g .starts .now) (g .firsts .now) (g .stamps .now) (g .findings .now) (g .parts .now) (g .table .now) (g .turned .now) in
     did-step (service w (g .d)) (g .line .now) _ (g .room .now) _ (g .d .at) _ _ (sym (ap (λ (q : Fields). meaning q (g .line .now)) (c .before .before .before .before .before .before .before .before .f6 .given .1)) ∙ c .before .before .before .before .before .before .before .before .before .before .decode .ensures) (c .before .before .ask .ensures w refl refl refl v)
 
 same-length-8 : tie.Need-same-length-8
@@ -182,7 +183,7 @@ unfolding meaning
 returns-8 c =
     let g = c .before .before .before .before .before .before .before .before .before .before .before .args in
     let v = c .before .before .before .before .before .before .before .before .before .before .before .pre .1 in
-    let w : Arrays = arrays (g .points .now) (g .entries .now) (g .starts .now) (g .stamps .now) (g .findings .now) (g .parts .now) (g .table .now) (g .turned .now) in
+    let w : Arrays = arrays (g .points .now) (g .entries .now) (g .starts .now) (g .firsts .now) (g .stamps .now) (g .findings .now) (g .parts .now) (g .table .now) (g .turned .now) in
     did-step (service w (g .d)) (g .line .now) _ (g .room .now) _ (g .d .at) _ _ (sym (ap (λ (q : Fields). meaning q (g .line .now)) (c .before .before .before .before .before .before .f7 .given .1)) ∙ c .before .before .before .before .before .before .before .before .decode .ensures) (c .before .before .ask2 .ensures w refl v)
 
 same-length-9 : tie.Need-same-length-9
@@ -193,7 +194,7 @@ unfolding meaning isAccepted
 returns-9 c =
     let g = c .before .before .before .before .before .before .before .before .before .args in
     let v = c .before .before .before .before .before .before .before .before .before .pre .1 in
-    let w : Arrays = arrays (g .points .now) (g .entries .now) (g .starts .now) (g .stamps .now) (g .findings .now) (g .parts .now) (g .table .now) (g .turned .now) in
+    let w : Arrays = arrays (g .points .now) (g .entries .now) (g .starts .now) (g .firsts .now) (g .stamps .now) (g .findings .now) (g .parts .now) (g .table .now) (g .turned .now) in
     did-step (service w (g .d)) (g .line .now) broken (g .room .now) _ (g .d .at) _ _ (sym (ap (λ (q : Fields). meaning q (g .line .now)) (c .before .before .before .before .enum-told2 .given .1)) ∙ c .before .before .before .before .before .before .decode .ensures)
     (did-refused w (g .d) v broken Malformed (g .room .now) _ _ (sym (of-broken (service w (g .d)))) refl (c .before .before .refuse .ensures w v))
 

@@ -114,10 +114,10 @@ running-end stream room₀ room a d from r h =
 
 -- ---- the arrays as they are made
 
-pub valid-idle : (a : Arrays) → Coords (a .points) → length (a .entries) ≡ 1024 → length (a .starts) ≡ 257 → getD (a .starts) 0 0 ≡ 0 → Sizes a → ((b : ℕ) → getD (a .table) b 0 ≡ 0) → Valid a idleDesk
-valid-idle a c e s z k f =
+pub valid-idle : (a : Arrays) → Coords (a .points) → length (a .entries) ≡ 1024 → length (a .starts) ≡ 1025 → getD (a .starts) 0 0 ≡ 0 → length (a .firsts) ≡ 257 → getD (a .firsts) 0 0 ≡ 0 → Sizes a → ((b : ℕ) → getD (a .table) b 0 ≡ 0) → Valid a idleDesk
+valid-idle a c e s z g y k f =
     record {
-      loaded = loaded-begun (a .points) (a .entries) (a .starts) 0 0 0 Whole Whole c e s z (omega arith);
+      loaded = loaded-begun (a .points) (a .entries) (a .starts) (a .firsts) 0 0 0 Whole Whole c e s g z y (omega arith);
       sizes = k;
       kept = λ q. absurd (nothing-held q);
       chained = λ q. absurd (nothing-loads q);

@@ -14,13 +14,13 @@ mul-finding-from : tie.Need-mul-finding-from
 mul-finding-from c =
     let p = c .before .before .pre in
     let l = told-low (p .0) (p .1 .0) (c .lowest-of .ensures) (p .1 .1 .0) (c .before .if1 .taken) in
-    let f = p .0 .begins .few in
+    let f = p .0 .layout .few in
     search needs
 
 element-copy-out-finding-from : tie.Need-element-copy-out-finding-from
 element-copy-out-finding-from c =
     let p = c .before .before .pre in
-    omega (arith, told-low (p .0) (p .1 .0) (c .lowest-of .ensures) (p .1 .1 .0) (c .before .if1 .taken), p .0 .begins .few)
+    omega (arith, told-low (p .0) (p .1 .0) (c .lowest-of .ensures) (p .1 .1 .0) (c .before .if1 .taken), p .0 .layout .few)
 
 finding-from-requires : tie.Need-finding-from-requires
 finding-from-requires c κs = search needs

@@ -17,13 +17,16 @@ use Rattle.whole.specs.held.Small.{Small}
 use Rattle.whole.specs.laws.Size.{small-zero, small-add, small-more}
 use Rattle.polygon.specs.declared.Finding.{Finding}
 use Rattle.polygon.specs.declared.Finding.the-variants.{Sound}
-use Rattle.polygon.specs.Ring.{finding, findingNumber}
-use Rattle.volume.specs.Part.{part}
+use Rattle.polygon.specs.Ring.{findingNumber}
+use Rattle.inner.specs.Finding.{finding, part}
+use Rattle.inner.specs.laws.One.{one-part}
+use Rattle.inner.specs.laws.Kept.{finding-take, part-take}
+use Rattle.ring.specs.Polygon.{one}
 use Rattle.space.specs.held.Points.{pointsOf}
-use Rattle.polygon.specs.laws.Taken.{finding-take, part-take}
 use Rattle.volume.specs.laws.PartSizes.{part-small}
 use Rattle.shell.specs.declared.Shape.{Shape}
-use Rattle.shell.specs.held.Held.{ringAt, rings}
+use Rattle.ring.specs.held.Rings.{ringAt, polygonAt, polygons}
+use Rattle.holes.specs.held.Rings.{Ring}
 use Rattle.shell.specs.Shell.{shape, shapeNumber}
 use Rattle.shell.specs.held.Kept.{Edged}
 use Rattle.directions.specs.laws.Now.{now-is}
@@ -35,11 +38,10 @@ use Rattle.building.specs.Report.{findings, isFault, lowestFault, sixVolume, sh
 use Rattle.edges.specs.laws.Tallies.{tally-map}
 use Rattle.whole.specs.laws.Places.{tab-length, tab-at}
 use Rattle.building.specs.laws.Lists.{tab-ext, take-is-tab, map-tab}
-use Rattle.building.specs.laws.Findings.{kept-number, kept-is, kept-fault, Early, broken-early}
+use Rattle.building.specs.laws.Findings.{kept-number, kept-is, kept-fault, Early, broken-one}
 use Rattle.polygon.specs.held.Findings.{keptFinding, findingOf}
 use Rattle.building.specs.held.Holds.{Arrays, heldTables, heldBuilding, Loaded, Found, Summed, Broken, Kept}
-use Rattle.building.specs.held.Rings.{Ring}
-use Rattle.building.specs.laws.Rings.{ring-of, ring-below, ring-length}
+use Rattle.building.specs.laws.Rings.{ring-of, ring-length, one-each, rings-many, polygon-below}
 use Rattle.totals.specs.held.Scans.{lowest, sumUpTo, Summable}
 use Rattle.totals.specs.laws.Scans.{lowest-is-length, lowest-inside, above, sum-more}
 
@@ -96,39 +98,39 @@ sum-map f [] = refl
 sum-map f (x ∷ l) = ap (λ (z : ℤ). f x +ℤ z) (sum-map f l)
 
 -- ---- a held building
-module _ {points : List ℤ} {entries starts : List ℕ} {s : Scalars} (ld : Loaded points entries starts s) where
+module _ {points : List ℤ} {entries starts firsts : List ℕ} {s : Scalars} (ld : Loaded points entries starts firsts s) where
   abbrev told : Tables
-  told = heldTables points entries starts s
+  told = heldTables points entries starts firsts s
 
   -- the points beyond the count are told of nothing
-  finding-held : (p : ℕ) → p < s .polygons → finding (s .tolerance) (take (s .points) (pointsOf points)) (ringAt entries starts p) ≡ finding (s .tolerance) (pointsOf points) (ringAt entries starts p)
-  finding-held p h = finding-take (pointsOf points) (s .points) (ringAt entries starts p) (ring-below ld p h) (s .tolerance)
+  finding-held : (p : ℕ) → p < s .polygons → finding (s .tolerance) (take (s .points) (pointsOf points)) (polygonAt entries starts firsts p) ≡ finding (s .tolerance) (pointsOf points) (polygonAt entries starts firsts p)
+  finding-held p h = finding-take (pointsOf points) (s .points) (polygonAt entries starts firsts p) (polygon-below ld p h) (s .tolerance)
 
-  part-held : (p : ℕ) → p < s .polygons → part (take (s .points) (pointsOf points)) (ringAt entries starts p) ≡ part (pointsOf points) (ringAt entries starts p)
-  part-held p h = part-take (pointsOf points) (s .points) (ringAt entries starts p) (ring-below ld p h)
+  part-held : (p : ℕ) → p < s .polygons → part (take (s .points) (pointsOf points)) (polygonAt entries starts firsts p) ≡ part (pointsOf points) (polygonAt entries starts firsts p)
+  part-held p h = part-take (pointsOf points) (s .points) (polygonAt entries starts firsts p) (polygon-below ld p h)
 
-  module _ {found : List ℕ} (fo : Found points entries starts found s) where
-    pub kept-finding : (p : ℕ) → p < s .polygons → getD found p 0 ≡ keptFinding (finding (told .tolerance) (told .points) (getD (told .polygons) p []))
-    unfolding heldTables rings
+  module _ {found : List ℕ} (fo : Found points entries starts firsts found s) where
+    pub kept-finding : (p : ℕ) → p < s .polygons → getD found p 0 ≡ keptFinding (finding (told .tolerance) (told .points) (getD (told .polygons) p (one [])))
+    unfolding heldTables polygons
     kept-finding p h =
         fo .each p h
-        ∙ ap keptFinding (sym (finding-held p h) ∙ ap (finding (s .tolerance) (take (s .points) (pointsOf points))) (sym (tab-at (ringAt entries starts) (s .polygons) p [] h)))
+        ∙ ap keptFinding (sym (finding-held p h) ∙ ap (finding (s .tolerance) (take (s .points) (pointsOf points))) (sym (tab-at (polygonAt entries starts firsts) (s .polygons) p (one []) h)))
 
     pub kept-findings : take (s .polygons) found ≡ map keptFinding (findings told)
-    unfolding findings heldTables rings
+    unfolding findings heldTables polygons
     kept-findings =
-        take-is-tab found (s .polygons) 0 (omega (arith, fo .size, ld .begins .few))
-        ∙ tab-ext (λ p. getD found p 0) (λ p. keptFinding (finding (s .tolerance) (take (s .points) (pointsOf points)) (ringAt entries starts p))) (s .polygons) (λ p h. fo .each p h ∙ ap keptFinding (sym (finding-held p h)))
-        ∙ sym (map-tab keptFinding (λ p. finding (s .tolerance) (take (s .points) (pointsOf points)) (ringAt entries starts p)) (s .polygons))
-        ∙ ap (map keptFinding) (sym (map-tab (finding (s .tolerance) (take (s .points) (pointsOf points))) (ringAt entries starts) (s .polygons)))
+        take-is-tab found (s .polygons) 0 (omega (arith, fo .size, ld .layout .few))
+        ∙ tab-ext (λ p. getD found p 0) (λ p. keptFinding (finding (s .tolerance) (take (s .points) (pointsOf points)) (polygonAt entries starts firsts p))) (s .polygons) (λ p h. fo .each p h ∙ ap keptFinding (sym (finding-held p h)))
+        ∙ sym (map-tab keptFinding (λ p. finding (s .tolerance) (take (s .points) (pointsOf points)) (polygonAt entries starts firsts p)) (s .polygons))
+        ∙ ap (map keptFinding) (sym (map-tab (finding (s .tolerance) (take (s .points) (pointsOf points))) (polygonAt entries starts firsts) (s .polygons)))
 
     pub kept-faults : tally (ltb 0) (take (s .polygons) found) ≡ report told .faults
     unfolding report
     kept-faults = ap (tally (ltb 0)) kept-findings ∙ tally-map (ltb 0) keptFinding (findings told) ∙ ap (λ (t : Finding → Bool). tally t (findings told)) (λ i f. kept-fault f i)
 
     findings-count : length (findings told) ≡ s .polygons
-    unfolding findings heldTables rings
-    findings-count = length-map (tab (ringAt entries starts) (s .polygons)) (finding (s .tolerance) (take (s .points) (pointsOf points))) ∙ tab-length (ringAt entries starts) (s .polygons)
+    unfolding findings heldTables polygons
+    findings-count = length-map (tab (polygonAt entries starts firsts) (s .polygons)) (finding (s .tolerance) (take (s .points) (pointsOf points))) ∙ tab-length (polygonAt entries starts firsts) (s .polygons)
 
     module _ {low : ℕ} (l : low ≡ lowest (take (s .polygons) found)) where
       low-is : low ≡ lowest (map keptFinding (findings told))
@@ -161,39 +163,39 @@ module _ {points : List ℤ} {entries starts : List ℕ} {s : Scalars} (ld : Loa
           ap (λ (o : Option Verdict). first Accepted (o ∷ shapeFault (shape (told .polygons)) ∷ given (leZ (sixVolume told) (pos 0)) Inward ∷ [])) (lowest-none 0 (findings told) k)
 
       -- and so none is broken
-      pub told-whole : s .polygons ≤ low → Broken entries starts (s .polygons) → ⊥
+      pub told-whole : s .polygons ≤ low → Broken entries starts firsts (s .polygons) → ⊥
       told-whole h b =
           let e : getD found (b .polygon) 0 ≡ 0 = sym (getD-take (s .polygons) found (b .polygon) 0 (b .below)) ∙ lowest-before (take (s .polygons) found) (b .polygon) (omega (arith, b .below)) in
-          let y : Early (findingNumber (finding (s .tolerance) (pointsOf points) (ringAt entries starts (b .polygon)))) = broken-early (s .tolerance) (pointsOf points) (ringAt entries starts (b .polygon)) (b .broken) in
-          let z = kept-number (finding (s .tolerance) (pointsOf points) (ringAt entries starts (b .polygon))) (fo .each (b .polygon) (b .below)) in
+          let y : Early (findingNumber (finding (s .tolerance) (pointsOf points) (polygonAt entries starts firsts (b .polygon)))) = broken-one (s .tolerance) (pointsOf points) (polygonAt entries starts firsts (b .polygon)) (ringAt entries starts (b .polygon)) (one-each ld (b .polygon) (b .below)) (b .broken) in
+          let z = kept-number (finding (s .tolerance) (pointsOf points) (polygonAt entries starts firsts (b .polygon))) (fo .each (b .polygon) (b .below)) in
           omega (arith, y .least)
 
-  module _ {parts : List ℤ} (su : Summed points entries starts parts s) where
-    pub kept-part : (p : ℕ) → p < s .polygons → getD parts p (pos 0) ≡ part (told .points) (getD (told .polygons) p [])
-    unfolding heldTables rings
-    kept-part p h = su .each p h ∙ sym (part-held p h) ∙ ap (part (take (s .points) (pointsOf points))) (sym (tab-at (ringAt entries starts) (s .polygons) p [] h))
+  module _ {parts : List ℤ} (su : Summed points entries starts firsts parts s) where
+    pub kept-part : (p : ℕ) → p < s .polygons → getD parts p (pos 0) ≡ part (told .points) (getD (told .polygons) p (one []))
+    unfolding heldTables polygons
+    kept-part p h = su .each p h ∙ sym (part-held p h) ∙ ap (part (take (s .points) (pointsOf points))) (sym (tab-at (polygonAt entries starts firsts) (s .polygons) p (one []) h))
 
     pub kept-volume : sumUpTo parts (s .polygons) ≡ sixVolume told
-    unfolding sixVolume heldTables rings
+    unfolding sixVolume heldTables polygons
     kept-volume =
         ap (sumOf (λ (z : ℤ). z))
-        (take-is-tab parts (s .polygons) (pos 0) (omega (arith, su .size, ld .begins .few))
-        ∙ tab-ext (λ p. getD parts p (pos 0)) (λ p. part (take (s .points) (pointsOf points)) (ringAt entries starts p)) (s .polygons) (λ p h. su .each p h ∙ sym (part-held p h))
-        ∙ sym (map-tab (part (take (s .points) (pointsOf points))) (ringAt entries starts) (s .polygons)))
-        ∙ sum-map (part (take (s .points) (pointsOf points))) (tab (ringAt entries starts) (s .polygons))
+        (take-is-tab parts (s .polygons) (pos 0) (omega (arith, su .size, ld .layout .few))
+        ∙ tab-ext (λ p. getD parts p (pos 0)) (λ p. part (take (s .points) (pointsOf points)) (polygonAt entries starts firsts p)) (s .polygons) (λ p h. su .each p h ∙ sym (part-held p h))
+        ∙ sym (map-tab (part (take (s .points) (pointsOf points))) (polygonAt entries starts firsts) (s .polygons)))
+        ∙ sum-map (part (take (s .points) (pointsOf points))) (tab (polygonAt entries starts firsts) (s .polygons))
 
     -- the sum of the first i parts is at most 6·10^15 for each entry up to there
     sum-small : (i : ℕ) → i ≤ s .polygons → Small (getD starts i 0 * 6000000000000000) (sumUpTo parts i)
     unfolding sumOf
     sum-small zero h = small-zero
     sum-small (suc i) h =
-        let r : Ring entries starts i = ring-of ld i (omega arith) in
+        let r : Ring entries starts i = ring-of ld i (omega (arith, rings-many ld)) in
         let l : length (ringAt entries starts i) ≡ getD starts (i + 1) 0 - getD starts i 0 = ring-length entries starts i (r .entries-size) (r .inside) in
         let f : getD starts i 0 ≤ getD starts (i + 1) 0 = r .forward in
         let n : suc i ≡ i + 1 = omega arith in
-        let p : Small ((length (ringAt entries starts i) - 1) * 6000000000000000) (getD parts i (pos 0)) = subst (λ (z : ℤ). Small ((length (ringAt entries starts i) - 1) * 6000000000000000) z) (sym (su .each i (omega arith))) (part-small (ld .coords) (r .known)) in
+        let p : Small ((length (ringAt entries starts i) - 1) * 6000000000000000) (getD parts i (pos 0)) = subst (λ (z : ℤ). Small ((length (ringAt entries starts i) - 1) * 6000000000000000) z) (sym (su .each i (omega arith) ∙ (ap (part (pointsOf points)) (one-each ld i (omega arith)) ∙ one-part (pointsOf points) (ringAt entries starts i)))) (part-small (ld .coords) (r .known)) in
         let ih : Small (getD starts i 0 * 6000000000000000) (sumUpTo parts i) = sum-small i (omega arith) in
-        rw n (subst (λ (z : ℤ). Small (getD starts (i + 1) 0 * 6000000000000000) z) (sym (sum-more parts i (omega (arith, su .size, ld .begins .few)))) (small-more (grow (getD starts i 0) (getD starts (i + 1) 0) (length (ringAt entries starts i)) l f) (small-add ih p)))
+        rw n (subst (λ (z : ℤ). Small (getD starts (i + 1) 0 * 6000000000000000) z) (sym (sum-more parts i (omega (arith, su .size, ld .layout .few)))) (small-more (grow (getD starts i 0) (getD starts (i + 1) 0) (length (ringAt entries starts i)) l f) (small-add ih p)))
       where
         grow : (a e l : ℕ) → l ≡ e - a → a ≤ e → a * 6000000000000000 + (l - 1) * 6000000000000000 ≤ e * 6000000000000000
         grow a e l h g = omega arith
@@ -202,8 +204,8 @@ module _ {points : List ℤ} {entries starts : List ℕ} {s : Scalars} (ld : Loa
     kept-summable =
         record {
           size = su .size;
-          few = ld .begins .few;
-          small = λ i h. small-more (omega (arith, ld .begins .ordered i (s .polygons) h (omega arith), ld .begins .inside)) (sum-small i h);
+          few = ld .layout .few;
+          small = λ i h. small-more (omega (arith, ld .layout .ordered i (getD firsts (s .polygons) 0) (omega (arith, rings-many ld)) (omega arith), ld .layout .inside)) (sum-small i h);
         }
 
 -- the stamp of a polygon
@@ -224,12 +226,12 @@ rows-accepted : (sh : Shape) (v : ℤ) → ltb 0 (shapeNumber sh) ≡ false → 
 unfolding first given shapeFault
 rows-accepted sh v e f = rw (e, f)
 
-module _ {points : List ℤ} {entries starts : List ℕ} {s : Scalars} (ld : Loaded points entries starts s) {found : List ℕ} {parts : List ℤ} {table turned : List ℕ} (kp : Kept points entries starts found parts table turned s) where
+module _ {points : List ℤ} {entries starts firsts : List ℕ} {s : Scalars} (ld : Loaded points entries starts firsts s) {found : List ℕ} {parts : List ℤ} {table turned : List ℕ} (kp : Kept points entries starts firsts found parts table turned s) where
   abbrev low : ℕ
   low = lowest (take (s .polygons) found)
 
   all-told : length (take (s .polygons) found) ≡ s .polygons
-  all-told = length-take-le (s .polygons) found (omega (arith, kp .found .size, ld .begins .few))
+  all-told = length-take-le (s .polygons) found (omega (arith, kp .found .size, ld .layout .few))
 
   -- where some polygon has a finding, the lowest is one of them
   pub told-low : {i : ℕ} → i ≡ low → {faults : ℕ} → faults ≡ tally (ltb 0) (take (s .polygons) found) → (faults ≡ 0 → ⊥) → i < s .polygons
@@ -239,33 +241,33 @@ module _ {points : List ℤ} {entries starts : List ℕ} {s : Scalars} (ld : Loa
     low-past : s .polygons ≤ low
     low-past = omega (arith, lowest-is-length (take (s .polygons) found) sound, all-told)
 
-    told-edged : Edged (rings entries starts (s .polygons)) table (s .edges) turned (s .fixed)
+    told-edged : Edged (polygons entries starts firsts (s .polygons)) table (s .edges) turned (s .fixed)
     told-edged = ⊎-elim (λ b. absurd (told-whole ld (kp .found) refl low-past b)) (λ ed. ed) (kp .shaped)
 
     -- what is kept of the shape is that of the present rings
-    told-shape : s .shape ≡ shape (rings entries starts (s .polygons))
-    told-shape = kp .shown ∙ now-is (rings entries starts (s .polygons)) table (s .edges) turned (s .fixed) told-edged
+    told-shape : s .shape ≡ shape (polygons entries starts firsts (s .polygons))
+    told-shape = kp .shown ∙ now-is (polygons entries starts firsts (s .polygons)) table (s .edges) turned (s .fixed) told-edged
 
     module _ {number : ℕ} (n : number ≡ shapeNumber (s .shape)) where
-      pub says-unsound : (number ≡ 0 → ⊥) → Unsound (s .shape) ≡ verdict (heldTables points entries starts s)
+      pub says-unsound : (number ≡ 0 → ⊥) → Unsound (s .shape) ≡ verdict (heldTables points entries starts firsts s)
       unfolding heldTables
       says-unsound z =
           sym (told-sound ld (kp .found) refl low-past
-          ∙ ap (λ (x : Shape). first Accepted (shapeFault x ∷ given (leZ (sixVolume (heldTables points entries starts s)) (pos 0)) Inward ∷ [])) (sym told-shape)
-          ∙ rows-unsound (s .shape) (sixVolume (heldTables points entries starts s)) (above (shapeNumber (s .shape)) (λ q. z (n ∙ q))))
+          ∙ ap (λ (x : Shape). first Accepted (shapeFault x ∷ given (leZ (sixVolume (heldTables points entries starts firsts s)) (pos 0)) Inward ∷ [])) (sym told-shape)
+          ∙ rows-unsound (s .shape) (sixVolume (heldTables points entries starts firsts s)) (above (shapeNumber (s .shape)) (λ q. z (n ∙ q))))
 
       module _ (z : number ≡ 0) {v : ℤ} (w : v ≡ sumUpTo parts (s .polygons)) where
         none-unsound : ltb 0 (shapeNumber (s .shape)) ≡ false
         none-unsound = le-ltb 0 (shapeNumber (s .shape)) (omega (arith, n))
 
-        rest : verdict (heldTables points entries starts s) ≡ first Accepted (shapeFault (s .shape) ∷ given (leZ v (pos 0)) Inward ∷ [])
+        rest : verdict (heldTables points entries starts firsts s) ≡ first Accepted (shapeFault (s .shape) ∷ given (leZ v (pos 0)) Inward ∷ [])
         unfolding heldTables
         rest =
             told-sound ld (kp .found) refl low-past
             ∙ ap₂ (λ (x : Shape) (y : ℤ). first Accepted (shapeFault x ∷ given (leZ y (pos 0)) Inward ∷ [])) (sym told-shape) (sym (w ∙ kept-volume ld (kp .summed)))
 
-        pub says-inward : leZ v (pos 0) ≡ true → Inward ≡ verdict (heldTables points entries starts s)
+        pub says-inward : leZ v (pos 0) ≡ true → Inward ≡ verdict (heldTables points entries starts firsts s)
         says-inward t = sym (rest ∙ rows-inward (s .shape) v none-unsound t)
 
-        pub says-accepted : leZ v (pos 0) ≡ false → Accepted ≡ verdict (heldTables points entries starts s)
+        pub says-accepted : leZ v (pos 0) ≡ false → Accepted ≡ verdict (heldTables points entries starts firsts s)
         says-accepted t = sym (rest ∙ rows-accepted (s .shape) v none-unsound t)

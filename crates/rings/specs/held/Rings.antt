@@ -10,10 +10,10 @@ use Rattle.service.specs.declared.Refusal.{Refusal}
 use Rattle.desk.specs.declared.Desk.{Desk}
 use Rattle.desk.specs.held.Row.{Row}
 
--- the arrays with other entries and starts
-abbrev pub withRings : List ℕ → List ℕ → Arrays → Arrays
-withRings entries starts a =
-    record { points = a .points; entries = entries; starts = starts; stamps = a .stamps; findings = a .findings; parts = a .parts; table = a .table; turned = a .turned }
+-- the arrays with other entries, starts and first rings
+abbrev pub withRings : List ℕ → List ℕ → List ℕ → Arrays → Arrays
+withRings entries starts firsts a =
+    record { points = a .points; entries = entries; starts = starts; firsts = firsts; stamps = a .stamps; findings = a .findings; parts = a .parts; table = a .table; turned = a .turned }
 
 -- the line of a polygon frame of n numbers
 pub record PolygonLine (line : List ℕ) (n : ℕ) : Type 0 where
@@ -21,6 +21,15 @@ pub record PolygonLine (line : List ℕ) (n : ℕ) : Type 0 where
   pub few : n ≤ 128
   pub listed : (i : ℕ) → i < n → Listed line i
 
+-- where the rings of n polygons end, each of which has one
+pub record Ends (starts firsts : List ℕ) (n : ℕ) : Type 0 where
+  pub starts-size : length starts ≡ 1025
+  pub firsts-size : length firsts ≡ 257
+  pub few : n ≤ 256
+  pub rings : getD firsts n 0 ≡ n
+  pub inside : getD starts (getD firsts n 0) 0 ≤ 1024
+
 -- a polygon more; accepted, there is room for it and its entries
-abbrev pub PolygonRow : List ℕ → Desk → List ℕ → Refusal → Type 0
-PolygonRow starts d ring r = Row d (λ a. a .starts ≡ starts) (polygon ring) ((d .held .polygons < 256) × (getD starts (d .held .polygons) 0 + length ring ≤ 1024)) r
+abbrev pub PolygonRow : List ℕ → List ℕ → Desk → List ℕ → Refusal → Type 0
+PolygonRow starts firsts d ring r =
+    Row d (λ a. (a .starts ≡ starts) × (a .firsts ≡ firsts)) (polygon ring) ((d .held .polygons < 256) × (getD starts (getD firsts (d .held .polygons) 0) 0 + length ring ≤ 1024)) r

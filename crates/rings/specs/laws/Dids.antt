@@ -25,12 +25,19 @@ use Rattle.modes.specs.held.Mode.{loads}
 use Rattle.desk.specs.held.Holds.{stateOf, service, Valid, Did, does}
 use Rattle.desk.specs.laws.Rows.{tables, loads-is, service-loads}
 use Rattle.desk.specs.laws.Dids.{did-accepted, passed-row, loading-mode, not-held, loading-not-nothing}
-use Rattle.rings.specs.held.Rings.{withRings}
+use lib.IntN.{ℤ}
+use Rattle.building.specs.declared.Scalars.{Scalars}
+use Rattle.building.specs.laws.Rings.{rings-many}
+use Rattle.rings.specs.held.Rings.{withRings, Ends}
 
--- arrays that are as they were, two of them under other names
-pub did-rings : (o : Outcome) (room : List ℕ) (at : ℕ) (a : Arrays) (room′ : List ℕ) (d : Desk) (ents starts : List ℕ) → a .entries ≡ ents → a .starts ≡ starts → Did o room at a room′ d
-    → Did o room at (withRings ents starts a) room′ d
-did-rings o room at a room′ d ents starts e f h = subst (λ (w : Arrays). Did o room at w room′ d) (λ i. withRings (e i) (f i) a) h
+-- where the rings of loaded tables end
+pub ends-of : {points : List ℤ} {entries starts firsts : List ℕ} {s : Scalars} → Loaded points entries starts firsts s → Ends starts firsts (s .polygons)
+ends-of ld = record { starts-size = ld .layout .starts-size; firsts-size = ld .layout .firsts-size; few = ld .layout .few; rings = rings-many ld; inside = ld .layout .inside }
+
+-- arrays that are as they were, three of them under other names
+pub did-rings : (o : Outcome) (room : List ℕ) (at : ℕ) (a : Arrays) (room′ : List ℕ) (d : Desk) (ents starts firsts : List ℕ) → a .entries ≡ ents → a .starts ≡ starts → a .firsts ≡ firsts → Did o room at a room′ d
+    → Did o room at (withRings ents starts firsts a) room′ d
+did-rings o room at a room′ d ents starts firsts e f g h = subst (λ (w : Arrays). Did o room at w room′ d) (λ i. withRings (e i) (f i) (g i) a) h
 
 module _ (a : Arrays) (d : Desk) (v : Valid a d) (ring : List ℕ) (r : Refusal) (row : r ≡ refusal (service a d) (polygon ring)) (t : isAccepted r ≡ true) where
   polygon-passed : Passed (service a d) (polygon ring)
@@ -57,28 +64,34 @@ module _ (a : Arrays) (d : Desk) (v : Valid a d) (ring : List ℕ) (r : Refusal)
         at = at;
       }
 
-  abbrev from : ℕ
-  from = getD (a .starts) (d .held .polygons) 0
+  -- the number of rings, and of entries
+  abbrev rings : ℕ
+  rings = getD (a .firsts) (d .held .polygons) 0
 
-  space-for : d .held .polygons < 256 → from + length ring ≤ 1024 → length ring ≤ 128 → Room (a .entries) (a .starts) (d .held) ring
+  abbrev from : ℕ
+  from = getD (a .starts) rings 0
+
+  space-for : d .held .polygons < 256 → from + length ring ≤ 1024 → length ring ≤ 128 → Room (a .entries) (a .starts) (a .firsts) (d .held) ring
   space-for few space short = record { few = few; space = space; short = short; known = polygon-known }
 
-  pub did-polygon : d .held .polygons < 256 → from + length ring ≤ 1024 → length ring ≤ 128 → (ents starts : List ℕ) → ents ≡ sets (a .entries) from ring
-      → starts ≡ set (a .starts) (d .held .polygons + 1) (from + length ring)
-      → (room room′ : List ℕ) (at : ℕ) → Wrote (ended (plain 0)) room (d .at) room′ at → Did (does (service a d) (polygon ring)) room (d .at) (withRings ents starts a) room′ (polygonDesk at)
+  pub did-polygon : d .held .polygons < 256 → from + length ring ≤ 1024 → length ring ≤ 128 → (ents starts firsts : List ℕ) → ents ≡ sets (a .entries) from ring
+      → starts ≡ set (a .starts) (rings + 1) (from + length ring)
+      → firsts ≡ set (a .firsts) (d .held .polygons + 1) (rings + 1)
+      → (room room′ : List ℕ) (at : ℕ) → Wrote (ended (plain 0)) room (d .at) room′ at → Did (does (service a d) (polygon ring)) room (d .at) (withRings ents starts firsts a) room′ (polygonDesk at)
   unfolding takes answerTo service stateOf tablesOf
-  did-polygon few space short ents starts e f room room′ at w =
-      did-accepted (service a d) (polygon ring) r room room′ (d .at) (withRings ents starts a) (polygonDesk at) row t
+  did-polygon few space short ents starts firsts e f g room room′ at w =
+      did-accepted (service a d) (polygon ring) r room room′ (d .at) (withRings ents starts firsts a) (polygonDesk at) row t
       (record {
-        loaded = subst (λ (q : List ℕ). Loaded (a .points) q starts (polygonDesk at .held)) (sym e)
-            (subst (λ (q : List ℕ). Loaded (a .points) (sets (a .entries) from ring) q (polygonDesk at .held)) (sym f)
-            (loaded-polygon (v .loaded) ring (space-for few space short) (d .held .last) (d .held .edges) Whole Whole));
+        loaded = subst (λ (q : List ℕ). Loaded (a .points) q starts firsts (polygonDesk at .held)) (sym e)
+            (subst (λ (q : List ℕ). Loaded (a .points) (sets (a .entries) from ring) q firsts (polygonDesk at .held)) (sym f)
+            (subst (λ (q : List ℕ). Loaded (a .points) (sets (a .entries) from ring) (set (a .starts) (rings + 1) (from + length ring)) q (polygonDesk at .held)) (sym g)
+            (loaded-polygon (v .loaded) ring (space-for few space short) (d .held .last) (d .held .edges) Whole Whole)));
         sizes = record { stamps = v .sizes .stamps; findings = v .sizes .findings; parts = v .sizes .parts; table = v .sizes .table; turned = v .sizes .turned };
         kept = λ q. absurd (not-held q);
         chained = λ q. v .chained (loads-is (d .mode) polygon-loads);
         fresh = λ q. absurd (loading-not-nothing q);
       })
-      ((λ i. loading (heldTables (a .points) (e i) (f i) (polygonDesk at .held)))
+      ((λ i. loading (heldTables (a .points) (e i) (f i) (g i) (polygonDesk at .held)))
       ∙ ap loading (tables-polygon (v .loaded) ring (space-for few space short) (d .held .last) (d .held .edges) Whole Whole)
       ∙ ap (λ (st : State). takes st (polygon ring)) (sym (service-loads a d polygon-loads)))
       w

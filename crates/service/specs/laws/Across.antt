@@ -3,13 +3,14 @@
 use Prim.Native.Nat.{ℕ}
 use mathlib.Core.Path.{_≡_, refl, sym, ap, _∙_}
 use mathlib.Core.Bool.{Bool, true, false, _||_}
-use mathlib.Core.List.{List, [], _∷_, reverse}
+use mathlib.Core.List.{List, [], _∷_}
 use lib.Dec.{eqb, leb}
 use lib.ListN.{length}
 use Rattle.whole.specs.Lists.{given, first, at}
 use Rattle.whole.specs.laws.Same.{eqb-sym}
 use Rattle.frame.specs.Frame.{Frame, across, decode}
-use Rattle.building.specs.Tables.{Tables, Building, Polygon, loaded, moved, turned}
+use Rattle.ring.specs.Polygon.{Polygon, turnedOver}
+use Rattle.building.specs.Tables.{Tables, Building, loaded, moved, turned}
 use Rattle.building.specs.Corrections.{Correction, move, turn, corrected, told, corrects}
 use Rattle.building.specs.laws.History.{told-loaded, corrects-told}
 use Rattle.service.specs.declared.Refusal.{Refusal}
@@ -113,8 +114,8 @@ module _ (before : List (List ℕ)) (end : List ℕ) (since : List (List ℕ)) (
 
 -- ---- what no turn alters
 
--- f of the rings, if no turn alters it, is after any corrections what it was when they were loaded
-module _ {A : Type 0} (f : List Polygon → A) (unaltered : (n : ℕ) (rings : List Polygon) → f (at n reverse rings) ≡ f rings) where
+-- f of the polygons, if no turn alters it, is after any corrections what it was when they were loaded
+module _ {A : Type 0} (f : List Polygon → A) (unaltered : (n : ℕ) (ps : List Polygon) → f (at n turnedOver ps) ≡ f ps) where
   pub corrections-keep : (t : Tables) (h : List Correction) → f (corrected t h .polygons) ≡ f (t .polygons)
   unfolding told loaded corrects moved turned
   corrections-keep t [] = ap (λ (b : Building). f (b .tables .polygons)) (told-loaded t)

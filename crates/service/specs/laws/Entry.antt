@@ -17,11 +17,13 @@ use Rattle.frame.specs.Frame.{begin, point, polygon, end-of-load}
 use Rattle.frame.specs.Encode.{encode, eight, fourEach}
 use Rattle.frame.specs.laws.Written.{encode-no-feed}
 use Rattle.space.specs.Space.{Point}
-use Rattle.building.specs.Tables.{Tables, Polygon, entries}
-use Rattle.building.specs.laws.Loadable.{Loadable}
+use Rattle.ring.specs.Polygon.{Polygon}
+use Rattle.building.specs.Tables.{Tables, entries}
+use Rattle.building.specs.laws.Loadable.{Loadable, PolygonOver}
 use Rattle.service.specs.Service.{State, nothing, step}
 use Rattle.service.specs.Stream.{Served, run, answers, served, Answers, after, Stands}
 use Rattle.service.specs.Fresh.{pointLine, polygonLine, loadLines, freshReport, freshStream}
+use Rattle.service.specs.laws.Fresh.{entries-alone}
 use Rattle.service.specs.laws.Room.{answered-stream}
 
 -- any two results that the entry's statement allows agree
@@ -49,10 +51,10 @@ unfolding pointLine
 points-no-feed [] = none
 points-no-feed (p ∷ ps) = more (encode-no-feed (point (p .x) (p .y) (p .z))) (points-no-feed ps)
 
-polygons-no-feed : (rs : List Polygon) → All NoFeed (map polygonLine rs)
+polygons-no-feed : (ps : List Polygon) → All NoFeed (map polygonLine ps)
 unfolding polygonLine
 polygons-no-feed [] = none
-polygons-no-feed (r ∷ rs) = more (encode-no-feed (polygon r)) (polygons-no-feed rs)
+polygons-no-feed (p ∷ ps) = more (encode-no-feed (polygon (p .outer))) (polygons-no-feed ps)
 
 pub fresh-lines : (t : Tables) → lines (freshStream t) ≡ loadLines t ++ (encode end-of-load ∷ [])
 unfolding freshStream loadLines
@@ -75,9 +77,9 @@ length-point p =
     let z : length (eight (p .z)) ≡ 8 = length-digits 8 (bits32 (p .z)) in
     omega (arith, length-append (digits 2 2) (eight (p .x) ++ (eight (p .y) ++ eight (p .z))), length-digits 2 2, length-append (eight (p .x)) (eight (p .y) ++ eight (p .z)), length-append (eight (p .y)) (eight (p .z)))
 
-length-polygon : (r : Polygon) → length (polygonLine r) ≡ 2 + 4 * length r
+length-polygon : (p : Polygon) → length (polygonLine p) ≡ 2 + 4 * length (p .outer)
 unfolding polygonLine encode
-length-polygon r = omega (arith, length-append (digits 2 3) (fourEach r), length-digits 2 3, length-fourEach r)
+length-polygon p = omega (arith, length-append (digits 2 3) (fourEach (p .outer)), length-digits 2 3, length-fourEach (p .outer))
 
 joined-append : (ls ms : List (List ℕ)) → length (joined (ls ++ ms)) ≡ length (joined ls) + length (joined ms)
 joined-append [] ms = unfold joined in (omega arith)
@@ -87,10 +89,11 @@ points-bytes : (ps : List Point) → length (joined (map pointLine ps)) ≡ 27 *
 points-bytes [] = unfold joined in refl
 points-bytes (p ∷ ps) = omega (arith, length-joined (pointLine p) (map pointLine ps), length-point p, points-bytes ps)
 
-polygons-bytes : (rs : List Polygon) → length (joined (map polygonLine rs)) ≡ 3 * length rs + 4 * entries rs
+-- a polygon's line has the entries of its one ring
+polygons-bytes : {n : ℕ} (ps : List Polygon) → All (PolygonOver n) ps → length (joined (map polygonLine ps)) ≡ 3 * length ps + 4 * entries ps
 unfolding entries
-polygons-bytes [] = unfold joined in refl
-polygons-bytes (r ∷ rs) = omega (arith, length-joined (polygonLine r) (map polygonLine rs), length-polygon r, polygons-bytes rs)
+polygons-bytes [] none = unfold joined in refl
+polygons-bytes (p ∷ ps) (more r rs) = omega (arith, length-joined (polygonLine p) (map polygonLine ps), length-polygon p, entries-alone p (r .alone), polygons-bytes ps rs)
 
 length-begin : (t : ℕ) → length (encode (begin t)) ≡ 6
 unfolding encode
@@ -127,7 +130,7 @@ module _ (t : Tables) (ok : Loadable t) where
         length-begin (t .tolerance),
         joined-append (map pointLine (t .points)) (map polygonLine (t .polygons)),
         points-bytes (t .points),
-        polygons-bytes (t .polygons),
+        polygons-bytes (t .polygons) (ok .each),
         length-joined (encode end-of-load) [],
         length-end,
         ok .points-few,

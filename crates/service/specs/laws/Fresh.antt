@@ -18,8 +18,10 @@ use Rattle.hex.specs.laws.Back.{Fits32, above, below}
 use Rattle.frame.specs.laws.RoundTrip.{decode-begin, decode-end, decode-point, decode-polygon, WellFormed, decode-well}
 use Rattle.space.specs.Space.{Point}
 use Rattle.places.specs.Points.{isFar, stands}
-use Rattle.building.specs.Tables.{Tables, Building, Polygon, begun, withPoint, withPolygon, entries, loaded}
-use Rattle.building.specs.laws.Loadable.{Apart, Loadable, RingOver, apart-stands, entries-append, loadable-begun, loadable-point, loadable-polygon, loadable-moved, loadable-turned}
+use Rattle.ring.specs.Polygon.{Polygon, one, entriesOf}
+use Rattle.ring.specs.laws.Turned.{entries-one}
+use Rattle.building.specs.Tables.{Tables, Building, begun, withPoint, withPolygon, entries, loaded}
+use Rattle.building.specs.laws.Loadable.{Apart, Loadable, RingOver, PolygonOver, apart-stands, entries-append, loadable-begun, loadable-point, loadable-polygon, loadable-moved, loadable-turned}
 use Rattle.service.specs.declared.Refusal.the-variants.{Accepted, Malformed, Misplaced, Beyond, Full, Absent, Taken, Late}
 use Rattle.service.specs.Service.{State, nothing, loading, holding, tablesOf, buildingOf, isLoading, isHolding, isMalformed, isMisplaced, isLate, isAbsent, isBeyond, isFull, isTaken, refusal, takes, reportOf, answerTo, Outcome, outcome, step, isAccepted, accepts}
 use Rattle.service.specs.laws.Refusals.{refused-keeps, accepted-keeps, accepted-line}
@@ -111,6 +113,11 @@ after-sound st (l ∷ ls) s = after-sound (step st l .next) ls (step-sound st l 
 
 -- ---- the lines of tables
 
+-- a polygon of one ring lists its entries
+pub entries-alone : (p : Polygon) → p .inner ≡ [] → length (entriesOf p) ≡ length (p .outer)
+unfolding one
+entries-alone p a = ap (λ (q : List (List ℕ)). length (entriesOf (record { outer = p .outer; inner = q }))) a ∙ ap length (entries-one (p .outer))
+
 pub after-append : (st : State) (ls ms : List (List ℕ)) → after st (ls ++ ms) ≡ after (after st ls) ms
 unfolding after
 after-append st [] ms = refl
@@ -140,7 +147,7 @@ decode-pointLine p e =
 module _ (tolerance : ℕ) where
   -- tables in the course of a load
   abbrev partly : List Point → List Polygon → State
-  partly ps rs = loading (record { tolerance = tolerance; points = ps; polygons = rs })
+  partly ps qs = loading (record { tolerance = tolerance; points = ps; polygons = qs })
 
   point-passes : (done : List Point) (p : Point) → isFar p ≡ false → length done < 512 → stands p done ≡ false → Passed (partly done []) (point (p .x) (p .y) (p .z))
   unfolding isMalformed isMisplaced isLoading isLate isAbsent isBeyond isFull isTaken tablesOf
@@ -167,7 +174,7 @@ module _ (tolerance : ℕ) where
   known-any n ring a = none-any (leb n) ring (all-imp (λ e h. lt-leb n e h) a)
 
   module _ (ps : List Point) (few-points : length ps ≤ 512) where
-    polygon-passes : (done : List Polygon) (ring : Polygon) → RingOver (length ps) ring → length done < 256 → entries done + length ring ≤ 1024 → Passed (partly ps done) (polygon ring)
+    polygon-passes : (done : List Polygon) (ring : List ℕ) → RingOver (length ps) ring → length done < 256 → entries done + length ring ≤ 1024 → Passed (partly ps done) (polygon ring)
     unfolding isMalformed isMisplaced isLoading isLate isAbsent isBeyond isFull isTaken tablesOf
     polygon-passes done ring r few room =
         record {
@@ -180,25 +187,27 @@ module _ (tolerance : ℕ) where
           free = refl;
         }
 
-    polygon-step : (done : List Polygon) (ring : Polygon) → RingOver (length ps) ring → length done < 256 → entries done + length ring ≤ 1024
-        → step (partly ps done) (polygonLine ring) .next ≡ partly ps (done ++ (ring ∷ []))
-    unfolding polygonLine takes tablesOf withPolygon
-    polygon-step done ring r few room =
-        next-encode (partly ps done) (polygon ring) (decode-polygon ring (r .few) (all-imp (λ e h. omega arith) (r .known))) (polygon-passes done ring r few room)
+    -- a polygon of one ring is brought about by its line
+    polygon-step : (done : List Polygon) (p : Polygon) → PolygonOver (length ps) p → length done < 256 → entries done + length (p .outer) ≤ 1024
+        → step (partly ps done) (polygonLine p) .next ≡ partly ps (done ++ (p ∷ []))
+    unfolding polygonLine takes tablesOf withPolygon one
+    polygon-step done p r few room =
+        next-encode (partly ps done) (polygon (p .outer)) (decode-polygon (p .outer) (r .outer .few) (all-imp (λ e h. omega arith) (r .outer .known))) (polygon-passes done (p .outer) (r .outer) few room)
+        ∙ ap (λ (q : List (List ℕ)). partly ps (done ++ (record { outer = p .outer; inner = q } ∷ []))) (sym (r .alone))
 
-    load-polygons : (done rest : List Polygon) → All (RingOver (length ps)) rest → length (done ++ rest) ≤ 256 → entries (done ++ rest) ≤ 1024
+    load-polygons : (done rest : List Polygon) → All (PolygonOver (length ps)) rest → length (done ++ rest) ≤ 256 → entries (done ++ rest) ≤ 1024
         → after (partly ps done) (map polygonLine rest) ≡ partly ps (done ++ rest)
     unfolding after entries
     load-polygons done [] none h g = rw append-nil
-    load-polygons done (ring ∷ rest) (more r all) h g =
-        let m : length (done ++ ring ∷ rest) ≡ length done + suc (length rest) = length-append done (ring ∷ rest) in
-        let n : entries (done ++ ring ∷ rest) ≡ entries done + (length ring + entries rest) = entries-append done (ring ∷ rest) in
+    load-polygons done (p ∷ rest) (more r all) h g =
+        let m : length (done ++ p ∷ rest) ≡ length done + suc (length rest) = length-append done (p ∷ rest) in
+        let n : entries (done ++ p ∷ rest) ≡ entries done + (length (entriesOf p) + entries rest) = entries-append done (p ∷ rest) in
         let few : length done < 256 = omega arith in
-        let room : entries done + length ring ≤ 1024 = omega arith in
-        let e : done ++ (ring ∷ []) ++ rest ≡ done ++ ring ∷ rest = append-assoc done (ring ∷ []) rest in
-        let s : step (partly ps done) (polygonLine ring) .next ≡ partly ps (done ++ (ring ∷ [])) = polygon-step done ring r few room in
-        let ih : after (partly ps (done ++ (ring ∷ []))) (map polygonLine rest) ≡ partly ps (done ++ (ring ∷ []) ++ rest) = load-polygons (done ++ (ring ∷ [])) rest all (rw e h) (rw e g) in
-        ap (λ (st : State). after st (map polygonLine rest)) s ∙ ih ∙ ap (λ (rs : List Polygon). partly ps rs) e
+        let room : entries done + length (p .outer) ≤ 1024 = omega (arith, entries-alone p (r .alone)) in
+        let e : done ++ (p ∷ []) ++ rest ≡ done ++ p ∷ rest = append-assoc done (p ∷ []) rest in
+        let s : step (partly ps done) (polygonLine p) .next ≡ partly ps (done ++ (p ∷ [])) = polygon-step done p r few room in
+        let ih : after (partly ps (done ++ (p ∷ []))) (map polygonLine rest) ≡ partly ps (done ++ (p ∷ []) ++ rest) = load-polygons (done ++ (p ∷ [])) rest all (rw e h) (rw e g) in
+        ap (λ (st : State). after st (map polygonLine rest)) s ∙ ih ∙ ap (λ (qs : List Polygon). partly ps qs) e
 
 -- begin is accepted in any state
 begin-passes : (st : State) (t : ℕ) → t ≤ 1000 → Passed st (begin t)
@@ -216,7 +225,7 @@ load-brings st t ok =
     ap (λ (s : State). after s (map pointLine (t .points) ++ map polygonLine (t .polygons))) (begin-step st (t .tolerance) (ok .tolerant))
     ∙ after-append (partly (t .tolerance) [] []) (map pointLine (t .points)) (map polygonLine (t .polygons))
     ∙ ap (λ (s : State). after s (map polygonLine (t .polygons))) (load-points (t .tolerance) [] (t .points) (ok .near) (ok .apart) (ok .points-few))
-    ∙ load-polygons (t .tolerance) (t .points) (ok .points-few) [] (t .polygons) (ok .rings) (ok .polygons-few) (ok .entries-few)
+    ∙ load-polygons (t .tolerance) (t .points) (ok .points-few) [] (t .polygons) (ok .each) (ok .polygons-few) (ok .entries-few)
 
 -- end of load of it answers its report and holds it
 pub end-holds : (t : Tables) → step (loading t) (encode end-of-load) ≡ record { next = holding (loaded t); answer = reportOf t }

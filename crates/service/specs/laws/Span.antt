@@ -11,9 +11,10 @@ use Rattle.whole.specs.Lists.{given, first}
 use Rattle.frame.specs.Frame.{Frame, begin, point, polygon, end-of-load, move, turn, question, across, broken, decode}
 use Rattle.frame.specs.Encode.{encode}
 use Rattle.answer.specs.Answer.{told}
-use Rattle.polygon.specs.Ring.{finding, findingNumber, findingPosition}
-use Rattle.volume.specs.Part.{part}
-use Rattle.building.specs.Tables.{Tables, Building, Polygon, loaded}
+use Rattle.ring.specs.Polygon.{Polygon, one}
+use Rattle.polygon.specs.Ring.{findingNumber, findingPosition}
+use Rattle.inner.specs.Finding.{finding, part}
+use Rattle.building.specs.Tables.{Tables, Building, loaded}
 use Rattle.building.specs.Corrections.{Correction, stampOf}
 use Rattle.building.specs.laws.History.{told-loaded, stamp-told, polygons-told}
 use Rattle.building.specs.laws.Loadable.{Loadable}
@@ -52,7 +53,7 @@ module _ (before : List (List ℕ)) (end : List ℕ) (since : List (List ℕ)) (
   unfolding correctedBy C.told
   corrected-loadable = held-loadable held-sound
 
-  pub stamp-is : (n : ℕ) → n < length (loadedBy before .polygons) → getD (buildingOf (held before end since) .stamps) n 0 ≡ stampOf (correctionsOf before since) n (getD (loadedBy before .polygons) n [])
+  pub stamp-is : (n : ℕ) → n < length (loadedBy before .polygons) → getD (buildingOf (held before end since) .stamps) n 0 ≡ stampOf (correctionsOf before since) n (getD (loadedBy before .polygons) n (one []))
   unfolding buildingOf
   stamp-is n h = ap (λ (st : State). getD (buildingOf st .stamps) n 0) held-told ∙ stamp-told (loadedBy before) (correctionsOf before since) n h
 
@@ -129,10 +130,10 @@ fresh-held t ok =
     ∙ ap (λ (st : State). step st (encode end-of-load) .next) (load-brings nothing t ok)
     ∙ ap (λ (o : Outcome). o .next) (end-holds t)
 
-no-stamp : (rs : List Polygon) (n : ℕ) → _≡_ {A = ℕ} (getD (map (λ r. 0) rs) n 0) 0
+no-stamp : (ps : List Polygon) (n : ℕ) → _≡_ {A = ℕ} (getD (map (λ p. 0) ps) n 0) 0
 no-stamp [] n = refl
-no-stamp (r ∷ rs) zero = refl
-no-stamp (r ∷ rs) (suc n) = no-stamp rs n
+no-stamp (p ∷ ps) zero = refl
+no-stamp (p ∷ ps) (suc n) = no-stamp ps n
 
 question-passes : (b b′ : Building) (n : ℕ) → b .tables ≡ b′ .tables → Passed (holding b) (question n) → Passed (holding b′) (question n)
 unfolding isMalformed isMisplaced isHolding isLate isAbsent isBeyond isFull isTaken tablesOf
@@ -160,15 +161,15 @@ module _ (b : Building) (l : List ℕ) (n : ℕ) (d : decode l ≡ question n) (
   unfolding toldOf loaded
   same-question =
       let t = b .tables in
-      let ring = getD (t .polygons) n [] in
-      let f = finding (t .tolerance) (t .points) ring in
+      let p = getD (t .polygons) n (one []) in
+      let f = finding (t .tolerance) (t .points) p in
       record {
         found = findingNumber f;
         position = findingPosition f;
         stamp = getD (b .stamps) n 0;
-        part-is = part (t .points) ring;
+        part-is = part (t .points) p;
         here = question-answer b l n d a;
-        there = question-answer (loaded t) l n d fresh-accepts ∙ ap (λ (z : ℕ). told (findingNumber f) (findingPosition f) z (part (t .points) ring)) (no-stamp (t .polygons) n);
+        there = question-answer (loaded t) l n d fresh-accepts ∙ ap (λ (z : ℕ). told (findingNumber f) (findingPosition f) z (part (t .points) p)) (no-stamp (t .polygons) n);
       }
 
 -- an accepted question's finding, position and part are those that a fresh load of the corrected tables answers
@@ -190,7 +191,7 @@ question-known t h l n d a = omega (arith, leb-false (length (C.told t h .tables
 -- and its stamp is that of the span: finding, position, stamp and part, from the corrected tables and the corrections alone
 pub question-told : (before : List (List ℕ)) (end : List ℕ) (since : List (List ℕ)) → Span before end since → (l : List ℕ) (n : ℕ) → decode l ≡ question n
     → accepts (held before end since) l ≡ true
-    → step (held before end since) l .answer ≡ toldIn (correctedBy before since) n (stampOf (correctionsOf before since) n (getD (loadedBy before .polygons) n []))
+    → step (held before end since) l .answer ≡ toldIn (correctedBy before since) n (stampOf (correctionsOf before since) n (getD (loadedBy before .polygons) n (one [])))
 unfolding toldOf correctedBy C.told
 question-told before end since s l n d a =
     let b : Building = C.told (loadedBy before) (correctionsOf before since) in

@@ -1,29 +1,39 @@
 -- In a building that fails none of the thirteen checks each edge of the list has two users, and they differ.
 use Prim.Native.Nat.{ℕ, _<_}
 use native.Mathlib.Omega.{arith}
+use mathlib.Core.Path.{sym, subst}
+use mathlib.Core.List.{List, _∷_}
 use lib.ListN.{length}
-use mathlib.Core.List.{List}
 use Rattle.whole.specs.All.{All, none, more}
-use Rattle.shell.specs.held.Kept.{Sound}
+use Rattle.whole.specs.laws.Alls.{all-imp}
+use Rattle.space.specs.Space.{Point}
+use Rattle.ring.specs.Polygon.{Polygon, ringsOf}
 use Rattle.users.specs.EdgeList.{edgeList}
-use Rattle.users.specs.laws.Two.{Numbers, TwoUsers, two-users}
-use Rattle.building.specs.Tables.{Tables, Polygon}
+use Rattle.users.specs.laws.Two.{Numbers, Separate, Sole, TwoUsers, two-users}
+use Rattle.building.specs.Tables.{Tables}
 use Rattle.building.specs.Thirteen.{Passes, NoneOfThirteen}
 use Rattle.building.specs.laws.Sound.{sound-of}
-use Rattle.building.specs.laws.Loadable.{Loadable, RingOver}
+use Rattle.building.specs.laws.Loadable.{Loadable, PolygonOver}
 
-each-sound : (t : Tables) {rings : List Polygon} → All (Passes (t .tolerance) (t .points)) rings → All Sound rings
-each-sound t none = none
-each-sound t (more {x = ring} p ps) = more (sound-of ring (p .not-01) (p .not-02) (p .not-03)) (each-sound t ps)
+module _ (n : ℕ) (few : n < 65536) where
+  -- numbers of n points
+  numbered : {ring : List ℕ} → All (λ (e : ℕ). e < n) ring → Numbers ring
+  numbered a = all-imp (λ e h. omega arith) a
 
-numbered : (n : ℕ) → n < 65536 → {ring : List ℕ} → All (λ (e : ℕ). e < n) ring → Numbers ring
-numbered n h none = none
-numbered n h (more {x = e} b bs) = let k : e < 65536 = omega arith in more k (numbered n h bs)
+  -- a polygon of one ring that passes 01 to 03
+  sole : (tolerance : ℕ) (points : List Point) (p : Polygon) → Passes tolerance points p → PolygonOver n p → Sole p
+  unfolding ringsOf
+  sole tolerance points p x o =
+      record {
+        sound = all-imp (λ r y. sound-of r (y .not-01) (y .not-02) (y .not-03)) (x .rings-pass);
+        numbers = subst (λ (l : List (List ℕ)). All Numbers (p .outer ∷ l)) (sym (o .alone)) (more (numbered (o .outer .known)) none);
+        separate = subst (λ (l : List (List ℕ)). Separate (p .outer ∷ l)) (sym (o .alone)) (none, tt);
+      }
 
-each-numbered : (n : ℕ) → n < 65536 → {rings : List Polygon} → All (RingOver n) rings → All Numbers rings
-each-numbered n h none = none
-each-numbered n h (more r rs) = more (numbered n h (r .known)) (each-numbered n h rs)
+  each-sole : (tolerance : ℕ) (points : List Point) {ps : List Polygon} → All (Passes tolerance points) ps → All (PolygonOver n) ps → All Sole ps
+  each-sole tolerance points none none = none
+  each-sole tolerance points (more {x = p} x xs) (more o os) = more (sole tolerance points p x o) (each-sole tolerance points xs os)
 
 pub none-two : (t : Tables) → Loadable t → NoneOfThirteen t → All (TwoUsers (length (t .polygons))) (edgeList (t .polygons))
 none-two t ok sound =
-    two-users (t .polygons) (each-sound t (sound .polygons-pass)) (each-numbered (length (t .points)) (omega (arith, ok .points-few)) (ok .rings)) (sound .rings-pass .not-08) (sound .rings-pass .not-09)
+    two-users (t .polygons) (each-sole (length (t .points)) (omega (arith, ok .points-few)) (t .tolerance) (t .points) (sound .polygons-pass) (ok .each)) (sound .all-pass .not-08) (sound .all-pass .not-09)

@@ -39,7 +39,7 @@ returns : tie.Need-returns
 returns c =
     let a = c .before .before .before .before .before .before .before .before .before .before .before .args in
     let k = c .before .before .before .before .before .before .before .before .before .before .before .pre .1 in
-    wrote-report (heldTables (a .points .now) (a .entries .now) (a .starts .now) (a .s)) (c .before .before .before .before .before .before .before .verdict-of .result) (c .before .before .before .before .before .before .check-number .result) (c .before .before .before .before .before .element-a .result) (c .before .before .before .before .element-b .result) (c .before .before .before .before .before .before .before .before .before .faults-of .result) _
+    wrote-report (heldTables (a .points .now) (a .entries .now) (a .starts .now) (a .firsts .now) (a .s)) (c .before .before .before .before .before .before .before .verdict-of .result) (c .before .before .before .before .before .before .check-number .result) (c .before .before .before .before .before .element-a .result) (c .before .before .before .before .element-b .result) (c .before .before .before .before .before .before .before .before .before .faults-of .result) _
     (c .before .before .before .before .before .before .before .verdict-of .ensures) (c .before .before .before .before .before .before .check-number .ensures) (c .before .before .before .before .before .element-a .ensures) (c .before .before .before .before .element-b .ensures)
     (c .before .before .before .before .before .before .before .before .before .faults-of .ensures ∙ kept-faults (k .0) (k .1 .found))
     (call-is w64 (c .before .before .before .before .before .before .before .before .six-volume .ok) (c .before .before .before .before .before .before .before .before .six-volume .ensures ∙ kept-volume (k .0) (k .1 .summed)))

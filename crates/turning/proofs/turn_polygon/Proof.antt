@@ -21,7 +21,7 @@ turn-polygon-requires : tie.Need-turn-polygon-requires
 turn-polygon-requires c κs =
     let g = c .before .before .before .before .before .before .before .before .before .before .args in
     let v = c .before .before .before .before .before .before .before .before .before .before .pre .1 in
-    let w : Arrays = arrays (g .points .now) (g .entries .now) (g .starts .now) (g .stamps .now) (g .findings .now) (g .parts .now) (g .table .now) (g .turned .now) in
+    let w : Arrays = arrays (g .points .now) (g .entries .now) (g .starts .now) (g .firsts .now) (g .stamps .now) (g .findings .now) (g .parts .now) (g .table .now) (g .turned .now) in
     let o = c .before .before .before .before .before .before .before .before .of-turn in
     let t : isAccepted (o .result) ≡ true = sym (c .before .before .before .before .before .before .before .is-accepted .ensures) ∙ c .before .before .before .before .before .before .if1 .taken in
     let q : o .result ≡ refusal (service w (g .d)) (turn (g .number) (g .p)) = o .ensures .is w tt v in
@@ -37,7 +37,7 @@ returns : tie.Need-returns
 returns c =
     let g = c .before .before .before .before .before .before .before .before .before .before .before .before .before .before .before .before .before .before .before .args in
     let v = c .before .before .before .before .before .before .before .before .before .before .before .before .before .before .before .before .before .before .before .pre .1 in
-    let w : Arrays = arrays (g .points .now) (g .entries .now) (g .starts .now) (g .stamps .now) (g .findings .now) (g .parts .now) (g .table .now) (g .turned .now) in
+    let w : Arrays = arrays (g .points .now) (g .entries .now) (g .starts .now) (g .firsts .now) (g .stamps .now) (g .findings .now) (g .parts .now) (g .table .now) (g .turned .now) in
     let o = c .before .before .before .before .before .before .before .before .before .before .before .before .before .before .before .before .before .of-turn in
     let t = sym (c .before .before .before .before .before .before .before .before .before .before .before .before .before .before .before .before .is-accepted .ensures) ∙ c .before .before .before .before .before .before .before .before .before .before .before .before .before .before .before .if1 .taken in
     did-turn w (g .d) v (g .number) (g .p) (o .result) (o .ensures .is w tt v) t _ _ (c .before .before .before .before .before .before .before .before .turn-polygon .ensures .0) (g .room .now) _ _ (c .before .before .put-report .ensures)
@@ -52,7 +52,7 @@ returns-2 : tie.Need-returns-2
 returns-2 c =
     let g = c .before .before .before .before .before .before .before .before .args in
     let v = c .before .before .before .before .before .before .before .before .pre .1 in
-    let w : Arrays = arrays (g .points .now) (g .entries .now) (g .starts .now) (g .stamps .now) (g .findings .now) (g .parts .now) (g .table .now) (g .turned .now) in
+    let w : Arrays = arrays (g .points .now) (g .entries .now) (g .starts .now) (g .firsts .now) (g .stamps .now) (g .findings .now) (g .parts .now) (g .table .now) (g .turned .now) in
     did-refused w (g .d) v (turn (g .number) (g .p)) (c .before .before .before .before .before .before .of-turn .result) (g .room .now) _ _ (c .before .before .before .before .before .before .of-turn .ensures .is w tt v) (sym (c .before .before .before .before .before .is-accepted .ensures) ∙ c .before .before .before .before .if1 .left) (c .before .before .refuse .ensures w v)
 
 pub turn-polygon-spec : {M : Type 1} → statement M

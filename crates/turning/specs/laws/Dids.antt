@@ -40,7 +40,7 @@ module _ (a : Arrays) (d : Desk) (v : Valid a d) (number p : ℕ) (r : Refusal) 
       omega (arith, leb-false (length (tables a d .polygons)) p k, tables-polygons (v .loaded))
 
   pub did-turn : (a′ : Arrays) (s : Scalars) → B.Did (turned number p (heldBuilding a (d .held))) a′ s
-      → (room room′ : List ℕ) (at : ℕ) → Wrote (ended (reportOf (heldTables (a′ .points) (a′ .entries) (a′ .starts) s))) room (d .at) room′ at
+      → (room room′ : List ℕ) (at : ℕ) → Wrote (ended (reportOf (heldTables (a′ .points) (a′ .entries) (a′ .starts) (a′ .firsts) s))) room (d .at) room′ at
       → Did (does (service a d) (turn number p)) room (d .at) a′ room′ (record { mode = Holding; held = s; at = at })
   unfolding takes answerTo tablesOf buildingOf
   did-turn = did-report a d (turn number p) r row t (turned number p (heldBuilding a (d .held))) (ap (λ (st : State). takes st (turn number p)) (service-holds a d turn-holds)) refl

@@ -14,7 +14,7 @@ use Rattle.polygon.specs.declared.Finding.{Finding}
 use Rattle.polygon.specs.Ring.{finding, findingNumber}
 use Rattle.polygon.specs.held.Position.{hasPosition}
 use Rattle.polygon.specs.laws.Position.{position-few}
-use Rattle.shell.specs.held.Held.{ringAt}
+use Rattle.ring.specs.held.Rings.{ringAt}
 use Rattle.turns.specs.laws.Turned.{turned-number, turned-placed, turned-kept, turned-found-at}
 use Rattle.turns.proofs.renew_finding.Statement.{statement}
 use Rattle.turns.proofs.renew_finding.Tie as tie
@@ -30,12 +30,12 @@ abbrev found : tie.Start → Finding
 found c = finding (c .args .tolerance) (table c) (ring c)
 
 number : (c : tie.Start) → getD (c .args .findings .now) (c .args .p) 0 % 16 ≡ findingNumber (found c)
-number c = turned-number (c .args .tolerance) (table c) (ring c) (c .pre .1 .1 .1 .1)
+number c = turned-number (c .args .tolerance) (table c) (ring c) (c .pre .1 .1 .1 .0 .1)
 
 placed : (c : tie.Else1) → hasPosition (found (c .before .before .before)) ≡ true
 placed c =
     let s = c .before .before .before in
-    sym (turned-placed (s .args .tolerance) (table s) (ring s) (s .pre .1 .1 .1 .1)) ∙ sym (c .before .has-position .ensures) ∙ not-false _ (c .if1 .left)
+    sym (turned-placed (s .args .tolerance) (table s) (ring s) (s .pre .1 .1 .1 .0 .1)) ∙ sym (c .before .has-position .ensures) ∙ not-false _ (c .if1 .left)
 
 few : (c : tie.After-position-of) → c .position-of .result ≤ 128
 few c =
@@ -56,7 +56,7 @@ returns : tie.Need-returns
 returns c =
     let s = c .before .before .before in
     let a = s .args in
-    sym (ap (set (a .findings .now) (a .p)) (sym (turned-kept (a .tolerance) (table s) (ring s) (s .pre .1 .1 .1 .1) (sym (c .before .has-position .ensures) ∙ not-true _ (c .if1 .taken)))) ∙ set-getD (a .findings .now) (a .p) 0)
+    sym (ap (set (a .findings .now) (a .p)) (sym (turned-kept (a .tolerance) (table s) (ring s) (s .pre .1 .1 .1 .0 .1) (sym (c .before .has-position .ensures) ∙ not-true _ (c .if1 .taken)))) ∙ set-getD (a .findings .now) (a .p) 0)
 
 mul-from : tie.Need-mul-from
 mul-from c = search needs
@@ -115,7 +115,7 @@ returns-2 : tie.Need-returns-2
 returns-2 c =
     let s = c .before .before .before .before .before .before .before .before in
     let a = s .args in
-    ap (set (a .findings .now) (a .p)) (turned-found-at (a .tolerance) (table s) (ring s) (s .pre .1 .1 .1 .1) (c .position-of .ensures))
+    ap (set (a .findings .now) (a .p)) (turned-found-at (a .tolerance) (table s) (ring s) (s .pre .1 .1 .1 .0 .1) (c .position-of .ensures))
 
 pub renew-finding-spec : {M : Type 1} → statement M
 renew-finding-spec =

@@ -51,7 +51,7 @@ part-turned-part-end c = search needs
 turned-part-requires : tie.Need-turned-part-requires
 turned-part-requires c κs =
     let s = c .before .before .before .before .before in
-    (s .pre .0, (s .pre .1 .0 .known, toZ-ofZ (record { sfits = c .before .before2 .given }) ∙ s .pre .1 .1 .1))
+    (s .pre .0, (s .pre .1 .0 .known, toZ-ofZ (record { sfits = c .before .before2 .given }) ∙ s .pre .1 .1 .0 .1))
 
 mul-after : tie.Need-mul-after
 mul-after c = search needs

@@ -3,8 +3,8 @@ use mathlib.Core.Path.{refl, _∙_}
 use native.Mathlib.Omega.{arith}
 use lib.ListN.{length-set}
 use Rattle.building.specs.held.Holds.{arrays, Shown}
-use Rattle.building.specs.laws.Rings.{ring-of}
-use Rattle.turns.specs.laws.Turned.{flipped, did-turned}
+use Rattle.building.specs.laws.Rings.{ring-of, rings-many}
+use Rattle.turns.specs.laws.Turned.{flipped, did-turned, found-now, part-now}
 use borrow.Author.Needs.{needs}
 use Rattle.turns.proofs.turn_polygon.Statement.{statement}
 use Rattle.turns.proofs.turn_polygon.Tie as tie
@@ -14,7 +14,7 @@ turn-ring-requires c κs =
     let s = c .before .before .before in
     let h = s .pre .0 in
     let p = s .args .n in
-    (h .loaded .coords, (ring-of (h .loaded) p (s .pre .1), (h .loaded .tolerant, ((h .kept .found .size, h .kept .found .each p (s .pre .1)), (h .kept .summed .size, h .kept .summed .each p (s .pre .1))))))
+    (h .loaded .coords, (ring-of (h .loaded) p (omega (arith, rings-many (h .loaded), s .pre .1)), (h .loaded .tolerant, ((h .kept .found .size, h .kept .found .each p (s .pre .1) ∙ found-now (h .loaded) p (s .pre .1)), ((h .kept .summed .size, h .kept .summed .each p (s .pre .1) ∙ part-now (h .loaded) p (s .pre .1)), omega (arith, h .loaded .layout .few, s .pre .1))))))
 
 mul-stamps : tie.Need-mul-stamps
 mul-stamps c = search needs
@@ -44,7 +44,7 @@ returns c =
     let a = s .args in
     let e = c .before .before .before .turn-ring .ensures in
     let sh : Shown (a .table .now) (a .s .edges) (flipped (a .turned .now) (a .n)) (a .s .fixed) (c .shape-now .result) = c .shape-now .ensures in (
-      did-turned (arrays (a .points .now) (a .entries .now) (a .starts .now) (a .stamps .now) (a .findings .now) (a .parts .now) (a .table .now) (a .turned .now)) (a .s) (s .pre .0) (a .number) (a .n) (s .pre .1) (e .0) refl (e .1 .0) (e .1 .1) refl sh,
+      did-turned (arrays (a .points .now) (a .entries .now) (a .starts .now) (a .firsts .now) (a .stamps .now) (a .findings .now) (a .parts .now) (a .table .now) (a .turned .now)) (a .s) (s .pre .0) (a .number) (a .n) (s .pre .1) (e .0) refl (e .1 .0) (e .1 .1) refl sh,
       record { entries = e .0; stamps = refl; findings = e .1 .0; parts = e .1 .1; turned = refl; scalars = refl; shown = sh },
     )
 

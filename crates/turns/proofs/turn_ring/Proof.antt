@@ -43,15 +43,15 @@ renew-finding-requires c κs =
     let e = c .before .before .reverse-in .ensures in
     let r = s .pre .1 .0 in
     let f = s .pre .1 .1 .1 .0 in
-    (s .pre .0, (own-ring r e, (s .pre .1 .1 .0, (f .0, f .1 ∙ ap (λ (l : List ℕ). keptFinding (finding (a .tolerance) (pointsOf (a .points .now)) l)) (own-back r e)))))
+    (s .pre .0, (own-ring r e, (s .pre .1 .1 .0, ((f .0, f .1 ∙ ap (λ (l : List ℕ). keptFinding (finding (a .tolerance) (pointsOf (a .points .now)) l)) (own-back r e)), s .pre .1 .1 .1 .1 .1))))
 
 renew-part-requires : tie.Need-renew-part-requires
 renew-part-requires c κs =
     let s = c .before .before .before .before .before .before .before .before .before in
     let e = c .before .before .before .before .before .reverse-in .ensures in
     let r = s .pre .1 .0 in
-    let f = s .pre .1 .1 .1 .1 in
-    (s .pre .0, (own-ring r e, (f .0, f .1 ∙ ap (part (pointsOf (s .args .points .now))) (own-back r e))))
+    let f = s .pre .1 .1 .1 .1 .0 in
+    (s .pre .0, (own-ring r e, ((f .0, f .1 ∙ ap (part (pointsOf (s .args .points .now))) (own-back r e)), s .pre .1 .1 .1 .1 .1)))
 
 returns : tie.Need-returns
 returns c =

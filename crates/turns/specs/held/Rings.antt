@@ -3,7 +3,7 @@ use Prim.Native.Nat.{ℕ}
 use mathlib.Core.List.{List, reverse}
 use lib.ListN.{getD}
 use lib.Seq.{sets}
-use Rattle.shell.specs.held.Held.{ringAt}
+use Rattle.ring.specs.held.Rings.{ringAt}
 
 -- the entries with ring p turned in its place
 abbrev pub turnedEntries : List ℕ → List ℕ → ℕ → List ℕ

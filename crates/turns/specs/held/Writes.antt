@@ -7,7 +7,7 @@ use lib.IntN.{ℤ}
 use Rattle.polygon.specs.Ring.{finding}
 use Rattle.volume.specs.Part.{part}
 use Rattle.space.specs.held.Points.{pointsOf}
-use Rattle.shell.specs.held.Held.{ringAt}
+use Rattle.ring.specs.held.Rings.{ringAt}
 use Rattle.building.specs.declared.Scalars.{Scalars}
 use Rattle.polygon.specs.held.Findings.{keptFinding}
 use Rattle.building.specs.held.Holds.{Arrays, Shown, corrected}

@@ -12,14 +12,17 @@ use lib.IntN.{ℤ}
 use Rattle.whole.specs.Lists.{tab, at}
 use Rattle.whole.specs.laws.Stores.{cases, all-set}
 use Rattle.space.specs.held.Points.{Known}
-use Rattle.shell.specs.held.Held.{ringAt, rings, Entries}
+use Rattle.ring.specs.Polygon.{Polygon, one, turnedOver}
+use Rattle.ring.specs.held.Rings.{ringAt, polygonAt, polygons, Layout}
+use Rattle.ring.specs.laws.Turned.{polygon-one, turned-one}
+use Rattle.shell.specs.held.Held.{Entries}
 use Rattle.building.specs.declared.Scalars.{Scalars}
 use Rattle.whole.specs.laws.Places.{tab-at, tab-length}
 use Rattle.building.specs.laws.Lists.{cut-sets, cut-sets-past, cut-sets-before}
 use Rattle.turns.specs.laws.Reversing.{tab-set}
 use Rattle.building.specs.held.Holds.{Loaded}
-use Rattle.building.specs.held.Rings.{Ring}
-use Rattle.building.specs.laws.Rings.{ring-length, ring-below, ring-of}
+use Rattle.holes.specs.held.Rings.{Ring}
+use Rattle.building.specs.laws.Rings.{ring-length, ring-below, ring-of, one-each, rings-many}
 use Rattle.turns.specs.held.Rings.{turnedEntries}
 
 -- ---- what holds of every element, after stores and in reverse
@@ -67,13 +70,20 @@ module _ {entries starts : List ℕ} {p : ℕ} (r : Ring entries starts p) where
       }
 
 -- ---- of all rings
-module _ {points : List ℤ} {entries starts : List ℕ} {s : Scalars} (ld : Loaded points entries starts s) (p : ℕ) (h : p < s .polygons) where
+module _ {points : List ℤ} {entries starts firsts : List ℕ} {s : Scalars} (ld : Loaded points entries starts firsts s) (p : ℕ) (h : p < s .polygons) where
+  abbrev turnedOnes : List ℕ
+  turnedOnes = turnedEntries entries starts p
+
+  few : (q : ℕ) → q < s .polygons → q < getD firsts (s .polygons) 0
+  few q g = omega (arith, rings-many ld)
+
   -- no other changes
-  pub turned-other : (q : ℕ) → q < s .polygons → (q ≡ p → ⊥) → ringAt (turnedEntries entries starts p) starts q ≡ ringAt entries starts q
+  pub turned-other : (q : ℕ) → q < s .polygons → (q ≡ p → ⊥) → ringAt turnedOnes starts q ≡ ringAt entries starts q
   turned-other q g ne =
-      let st = ld .begins in
+      let m : getD firsts (s .polygons) 0 ≡ s .polygons = rings-many ld in
+      let st = ld .layout in
       let r : getD starts p 0 ≤ getD starts (p + 1) 0 = st .ordered p (p + 1) (omega arith) (omega arith) in
-      let l : length (reverse (ringAt entries starts p)) ≡ getD starts (p + 1) 0 - getD starts p 0 = own-length (ring-of ld p h) in
+      let l : length (reverse (ringAt entries starts p)) ≡ getD starts (p + 1) 0 - getD starts p 0 = own-length (ring-of ld p (few p h)) in
       cases (ltb q p)
       (λ t. cut-sets-past (getD starts q 0) (getD starts (q + 1) 0) (getD starts p 0) entries (reverse (ringAt entries starts p))
       (st .ordered q (q + 1) (omega arith) (omega arith))
@@ -82,35 +92,62 @@ module _ {points : List ℤ} {entries starts : List ℕ} {s : Scalars} (ld : Loa
       (let z : p < q = lt-of-le-ne (ltb-false q p t) (λ e. ne (sym e)) in omega (arith, st .ordered (p + 1) q (omega arith) (omega arith))))
 
   -- what a ring tells that is the same turned, every ring tells after the turn
-  pub turned-same : {A : Type 0} (f : List ℕ → A) → ((r : List ℕ) → f (reverse r) ≡ f r) → (q : ℕ) → q < s .polygons → f (ringAt (turnedEntries entries starts p) starts q) ≡ f (ringAt entries starts q)
+  pub turned-same : {A : Type 0} (f : List ℕ → A) → ((r : List ℕ) → f (reverse r) ≡ f r) → (q : ℕ) → q < s .polygons → f (ringAt turnedOnes starts q) ≡ f (ringAt entries starts q)
   turned-same f e q g =
       cases (eqb q p)
-      (λ t. subst (λ (k : ℕ). f (ringAt (turnedEntries entries starts p) starts k) ≡ f (ringAt entries starts k)) (sym (eqb-true q p t)) (ap f (turned-own (ring-of ld p h)) ∙ e (ringAt entries starts p)))
+      (λ t. subst (λ (k : ℕ). f (ringAt turnedOnes starts k) ≡ f (ringAt entries starts k)) (sym (eqb-true q p t)) (ap f (turned-own (ring-of ld p (few p h))) ∙ e (ringAt entries starts p)))
       (λ t. ap f (turned-other q g (eqb-false q p t)))
 
-  pub turned-rings : rings (turnedEntries entries starts p) starts (s .polygons) ≡ at p reverse (rings entries starts (s .polygons))
-  unfolding rings
-  turned-rings =
-      tab-set (ringAt entries starts) (ringAt (turnedEntries entries starts p) starts) (s .polygons) p h turned-other
-      ∙ ap (λ (r : List ℕ). set (tab (ringAt entries starts) (s .polygons)) p r) (turned-own (ring-of ld p h) ∙ ap reverse (sym (tab-at (ringAt entries starts) (s .polygons) p [] h)))
-      ∙ sym (at-is-set reverse (tab (ringAt entries starts) (s .polygons)) p [] (rw tab-length h))
+  -- the polygons, each of one ring
+  now-one : (q : ℕ) → q < s .polygons → polygonAt turnedOnes starts firsts q ≡ one (ringAt turnedOnes starts q)
+  now-one q g = polygon-one turnedOnes starts firsts q (ld .ones q (omega arith)) (ld .ones (q + 1) (omega arith))
 
-  pub turned-entered : Entries (turnedEntries entries starts p) (getD starts (s .polygons) 0) (s .points)
+  pub polygon-own : polygonAt turnedOnes starts firsts p ≡ turnedOver (polygonAt entries starts firsts p)
+  polygon-own = now-one p h ∙ (ap one (turned-own (ring-of ld p (few p h))) ∙ (sym (turned-one (ringAt entries starts p)) ∙ ap turnedOver (sym (one-each ld p h))))
+
+  pub polygon-other : (q : ℕ) → q < s .polygons → (q ≡ p → ⊥) → polygonAt turnedOnes starts firsts q ≡ polygonAt entries starts firsts q
+  polygon-other q g ne = now-one q g ∙ (ap one (turned-other q g ne) ∙ sym (one-each ld q g))
+
+  pub turned-polygons : polygons turnedOnes starts firsts (s .polygons) ≡ at p turnedOver (polygons entries starts firsts (s .polygons))
+  unfolding polygons
+  turned-polygons =
+      tab-set (polygonAt entries starts firsts) (polygonAt turnedOnes starts firsts) (s .polygons) p h polygon-other
+      ∙ ap (λ (q : Polygon). set (tab (polygonAt entries starts firsts) (s .polygons)) p q) (polygon-own ∙ ap turnedOver (sym (tab-at (polygonAt entries starts firsts) (s .polygons) p (one []) h)))
+      ∙ sym (at-is-set turnedOver (tab (polygonAt entries starts firsts) (s .polygons)) p (one []) (rw tab-length h))
+
+  turned-size : length turnedOnes ≡ 1024
+  turned-size = length-sets entries (getD starts p 0) (reverse (ringAt entries starts p)) ∙ ld .entered .size
+
+  pub turned-entered : Entries turnedOnes (getD starts (getD firsts (s .polygons) 0) 0) (s .points)
   turned-entered =
       record {
-        size = length-sets entries (getD starts p 0) (reverse (ringAt entries starts p)) ∙ ld .entered .size;
+        size = turned-size;
         few = ld .entered .few;
-        below = all-sets (λ (e : ℕ). e < s .points) 0 entries (reverse (ringAt entries starts p)) (getD starts (s .polygons) 0) (getD starts p 0) (ld .entered .below)
-            (all-reverse (λ (e : ℕ). e < s .points) 0 (ringAt entries starts p) (ring-below ld p h));
+        below = all-sets (λ (e : ℕ). e < s .points) 0 entries (reverse (ringAt entries starts p)) (getD starts (getD firsts (s .polygons) 0) 0) (getD starts p 0) (ld .entered .below)
+            (all-reverse (λ (e : ℕ). e < s .points) 0 (ringAt entries starts p) (ring-below ld p (few p h)));
       }
 
-  pub turned-loaded : Loaded points (turnedEntries entries starts p) starts s
+  turned-layout : Layout turnedOnes starts firsts (s .polygons)
+  turned-layout = record {
+    entries-size = turned-size;
+    starts-size = ld .layout .starts-size;
+    firsts-size = ld .layout .firsts-size;
+    few = ld .layout .few;
+    begin = ld .layout .begin;
+    rising = ld .layout .rising;
+    many = ld .layout .many;
+    ordered = ld .layout .ordered;
+    inside = ld .layout .inside;
+  }
+
+  pub turned-loaded : Loaded points turnedOnes starts firsts s
   turned-loaded =
       record {
         coords = ld .coords;
         first = ld .first;
-        begins = ld .begins;
+        layout = turned-layout;
+        ones = ld .ones;
         entered = turned-entered;
         tolerant = ld .tolerant;
-        short = λ q g. rw (turned-same length (λ r. length-reverse r) q g) (ld .short q g);
+        short = λ q g. rw (turned-same length (λ r. length-reverse r) q (omega (arith, rings-many ld))) (ld .short q g);
       }

@@ -26,7 +26,12 @@ use Rattle.space.specs.Space.{Point}
 use Rattle.space.specs.held.Points.{pointsOf, Coords, Known}
 use Rattle.volume.specs.laws.PartSizes.{part-small}
 use Rattle.shell.specs.declared.Shape.{Shape}
-use Rattle.shell.specs.held.Held.{ringAt, rings}
+use Rattle.ring.specs.Polygon.{Polygon, one, turnedOver}
+use Rattle.ring.specs.held.Rings.{ringAt, polygonAt, polygons}
+use Rattle.ring.specs.laws.Turned.{turned-one}
+use Rattle.inner.specs.Finding as Inner
+use Rattle.inner.specs.laws.One.{one-ring, one-part}
+use Rattle.holes.specs.held.Rings.{Ring}
 use Rattle.shell.specs.laws.EdgedLaws.{listed-turned, edged-turned}
 use Rattle.building.specs.declared.Scalars.{Scalars}
 use Rattle.building.specs.Tables.{turned}
@@ -34,10 +39,9 @@ use Rattle.building.specs.held.Holds.{isBroken, Arrays, arrays, heldTables, hel
 use Rattle.polygon.specs.held.Findings.{keptFinding, isPlaced}
 use Rattle.building.specs.laws.Findings.{broken-turned, kept-number}
 use Rattle.polygon.specs.laws.Position.{placed-is}
-use Rattle.building.specs.held.Rings.{Ring}
-use Rattle.building.specs.laws.Rings.{ring-of}
+use Rattle.building.specs.laws.Rings.{one-each}
 use Rattle.turns.specs.held.Rings.{turnedEntries}
-use Rattle.turns.specs.laws.Rings.{turned-own, turned-known, turned-other, turned-rings, turned-loaded}
+use Rattle.turns.specs.laws.Rings.{turned-own, turned-known, polygon-own, polygon-other, turned-polygons, turned-loaded}
 
 -- ---- the part of a turned ring, from what it was
 neg-neg : (z : ℤ) → negℤ (negℤ z) ≡ z
@@ -108,40 +112,58 @@ abbrev pub flipped : List ℕ → ℕ → List ℕ
 flipped turned p = set turned p (1 - getD turned p 0)
 
 -- ---- all that is kept
-module _ {points : List ℤ} {entries starts : List ℕ} {s : Scalars} (ld : Loaded points entries starts s) (p : ℕ) (h : p < s .polygons) where
-  -- what a ring tells, stored anew for the turned one, is told of every ring
-  turned-each : {A : Type 0} (f : List ℕ → A) (l : List A) (d : A) → length l ≡ 256 → ((q : ℕ) → q < s .polygons → getD l q d ≡ f (ringAt entries starts q))
-      → (q : ℕ) → q < s .polygons → getD (set l p (f (reverse (ringAt entries starts p)))) q d ≡ f (ringAt (turnedEntries entries starts p) starts q)
-  turned-each f l d size each q g =
-      let z = f (reverse (ringAt entries starts p)) in
+module _ {points : List ℤ} {entries starts firsts : List ℕ} {s : Scalars} (ld : Loaded points entries starts firsts s) (p : ℕ) (h : p < s .polygons) where
+  -- what a polygon tells, stored anew for the turned one, is told of every polygon
+  turned-each : {A : Type 0} (f : Polygon → A) (l : List A) (d : A) (z : A) → z ≡ f (turnedOver (polygonAt entries starts firsts p)) → length l ≡ 256 → ((q : ℕ) → q < s .polygons → getD l q d ≡ f (polygonAt entries starts firsts q))
+      → (q : ℕ) → q < s .polygons → getD (set l p z) q d ≡ f (polygonAt (turnedEntries entries starts p) starts firsts q)
+  turned-each f l d z e size each q g =
       cases (eqb q p)
-      (λ t. rw (eqb-true q p t) (getD-set-same l p z d (omega (arith, ld .begins .few)) ∙ ap f (sym (turned-own (ring-of ld p h)))))
-      (λ t. getD-set-other l p q z d (eqb-false q p t) ∙ each q g ∙ ap f (sym (turned-other ld p h q g (eqb-false q p t))))
+      (λ t. rw (eqb-true q p t) (getD-set-same l p z d (omega (arith, ld .layout .few)) ∙ (e ∙ ap f (sym (polygon-own ld p h)))))
+      (λ t. getD-set-other l p q z d (eqb-false q p t) ∙ each q g ∙ ap f (sym (polygon-other ld p h q g (eqb-false q p t))))
 
-  turned-found : {findings : List ℕ} → Found points entries starts findings s
-      → Found points (turnedEntries entries starts p) starts (set findings p (keptFinding (finding (s .tolerance) (pointsOf points) (reverse (ringAt entries starts p))))) s
+  -- what the one ring tells
+  pub found-now : keptFinding (Inner.finding (s .tolerance) (pointsOf points) (polygonAt entries starts firsts p)) ≡ keptFinding (finding (s .tolerance) (pointsOf points) (ringAt entries starts p))
+  found-now = ap keptFinding (ap (Inner.finding (s .tolerance) (pointsOf points)) (one-each ld p h) ∙ one-ring (pointsOf points) (ringAt entries starts p) (s .tolerance))
+
+  pub part-now : Inner.part (pointsOf points) (polygonAt entries starts firsts p) ≡ part (pointsOf points) (ringAt entries starts p)
+  part-now = ap (Inner.part (pointsOf points)) (one-each ld p h) ∙ one-part (pointsOf points) (ringAt entries starts p)
+
+  own-turned-one : turnedOver (polygonAt entries starts firsts p) ≡ one (reverse (ringAt entries starts p))
+  own-turned-one = ap turnedOver (one-each ld p h) ∙ turned-one (ringAt entries starts p)
+
+  found-one : keptFinding (finding (s .tolerance) (pointsOf points) (reverse (ringAt entries starts p))) ≡ keptFinding (Inner.finding (s .tolerance) (pointsOf points) (turnedOver (polygonAt entries starts firsts p)))
+  found-one = ap keptFinding (sym (ap (Inner.finding (s .tolerance) (pointsOf points)) own-turned-one ∙ one-ring (pointsOf points) (reverse (ringAt entries starts p)) (s .tolerance)))
+
+  part-one : part (pointsOf points) (reverse (ringAt entries starts p)) ≡ Inner.part (pointsOf points) (turnedOver (polygonAt entries starts firsts p))
+  part-one = sym (ap (Inner.part (pointsOf points)) own-turned-one ∙ one-part (pointsOf points) (reverse (ringAt entries starts p)))
+
+  turned-found : {findings : List ℕ} → Found points entries starts firsts findings s
+      → Found points (turnedEntries entries starts p) starts firsts (set findings p (keptFinding (finding (s .tolerance) (pointsOf points) (reverse (ringAt entries starts p))))) s
   turned-found {findings} f =
+      let z = keptFinding (finding (s .tolerance) (pointsOf points) (reverse (ringAt entries starts p))) in
       record {
-        size = length-set findings p (keptFinding (finding (s .tolerance) (pointsOf points) (reverse (ringAt entries starts p)))) ∙ f .size;
-        each = turned-each (λ r. keptFinding (finding (s .tolerance) (pointsOf points) r)) findings 0 (f .size) (f .each);
+        size = length-set findings p z ∙ f .size;
+        each = turned-each (λ q. keptFinding (Inner.finding (s .tolerance) (pointsOf points) q)) findings 0 z found-one (f .size) (f .each);
       }
 
-  turned-summed : {parts : List ℤ} → Summed points entries starts parts s → Summed points (turnedEntries entries starts p) starts (set parts p (part (pointsOf points) (reverse (ringAt entries starts p)))) s
+  turned-summed : {parts : List ℤ} → Summed points entries starts firsts parts s → Summed points (turnedEntries entries starts p) starts firsts (set parts p (part (pointsOf points) (reverse (ringAt entries starts p)))) s
   turned-summed {parts} f =
+      let z = part (pointsOf points) (reverse (ringAt entries starts p)) in
       record {
-        size = length-set parts p (part (pointsOf points) (reverse (ringAt entries starts p))) ∙ f .size;
-        each = turned-each (part (pointsOf points)) parts (pos 0) (f .size) (f .each);
+        size = length-set parts p z ∙ f .size;
+        each = turned-each (Inner.part (pointsOf points)) parts (pos 0) z part-one (f .size) (f .each);
       }
 
-  turned-broken : Broken entries starts (s .polygons) → Broken (turnedEntries entries starts p) starts (s .polygons)
+  turned-broken : Broken entries starts firsts (s .polygons) → Broken (turnedEntries entries starts p) starts firsts (s .polygons)
+  unfolding turnedOver
   turned-broken b =
       let q = b .polygon in
       record {
         polygon = q;
         below = b .below;
         broken = cases (eqb q p)
-            (λ t. rw (eqb-true q p t) (ap isBroken (turned-own (ring-of ld p h)) ∙ broken-turned (ringAt entries starts p) (subst (λ (k : ℕ). isBroken (ringAt entries starts k) ≡ true) (eqb-true q p t) (b .broken))))
-            (λ t. ap isBroken (turned-other ld p h q (b .below) (eqb-false q p t)) ∙ b .broken);
+            (λ t. rw (eqb-true q p t) (ap (λ (r : Polygon). isBroken (r .outer)) (polygon-own ld p h) ∙ broken-turned (polygonAt entries starts firsts p .outer) (subst (λ (k : ℕ). isBroken (polygonAt entries starts firsts k .outer) ≡ true) (eqb-true q p t) (b .broken))))
+            (λ t. ap (λ (r : Polygon). isBroken (r .outer)) (polygon-other ld p h q (b .below) (eqb-false q p t)) ∙ b .broken);
       }
 
 module _ (a : Arrays) (s : Scalars) (hd : Held a s) (number p : ℕ) (h : p < s .polygons) where
@@ -153,29 +175,29 @@ module _ (a : Arrays) (s : Scalars) (hd : Held a s) (number p : ℕ) (h : p < s 
       → parts' ≡ set (a .parts) p (part (pointsOf (a .points)) (reverse (ringAt (a .entries) (a .starts) p)))
       → turned' ≡ flipped (a .turned) p
       → {shape' : Shape} → Shown (a .table) (s .edges) turned' (s .fixed) shape'
-      → Did (turned number p (heldBuilding a s)) (arrays (a .points) entries' (a .starts) stamps' findings' parts' (a .table) turned') (record { tolerance = s .tolerance; points = s .points; polygons = s .polygons; last = number; edges = s .edges; fixed = s .fixed; shape = shape' })
+      → Did (turned number p (heldBuilding a s)) (arrays (a .points) entries' (a .starts) (a .firsts) stamps' findings' parts' (a .table) turned') (record { tolerance = s .tolerance; points = s .points; polygons = s .polygons; last = number; edges = s .edges; fixed = s .fixed; shape = shape' })
   unfolding heldBuilding heldTables turned
   did-turned e₁ e₂ e₅ e₃ e₄ {shape'} sh =
       let ld = hd .loaded in
       let kp = hd .kept in
-      let few : p < 256 = omega (arith, ld .begins .few) in
+      let few : p < 256 = omega (arith, ld .layout .few) in
       let lt = turned-loaded ld p h in
       let b : p < length (a .turned) = omega (arith, kp .turned-size) in
       let sh' : Shown (a .table) (s .edges) (flipped (a .turned) p) (s .fixed) shape' = rw e₄ at sh in
       rw (e₁, e₂, e₅, e₃, e₄)
       (record {
         held = record {
-          loaded = record { coords = lt .coords; first = lt .first; begins = lt .begins; entered = lt .entered; tolerant = lt .tolerant; short = lt .short };
+          loaded = record { coords = lt .coords; first = lt .first; layout = lt .layout; ones = lt .ones; entered = lt .entered; tolerant = lt .tolerant; short = lt .short };
           stamped = length-set (a .stamps) p number ∙ hd .stamped;
           kept = record {
             found = record { size = turned-found ld p h (kp .found) .size; each = turned-found ld p h (kp .found) .each };
             summed = record { size = turned-summed ld p h (kp .summed) .size; each = turned-summed ld p h (kp .summed) .each };
             table-size = kp .table-size;
             turned-size = length-set (a .turned) p (1 - getD (a .turned) p 0) ∙ kp .turned-size;
-            listed = rw (turned-rings ld p h) (listed-turned (rings (a .entries) (a .starts) (s .polygons)) (a .table) (s .edges) (a .turned) p b (kp .listed));
-            shaped = ⊎-elim (λ br. inl (turned-broken ld p h br)) (λ ed. inr (rw (turned-rings ld p h) (edged-turned (rings (a .entries) (a .starts) (s .polygons)) (a .table) (s .edges) (a .turned) (s .fixed) p b ed))) (kp .shaped);
+            listed = rw (turned-polygons ld p h) (listed-turned (polygons (a .entries) (a .starts) (a .firsts) (s .polygons)) (a .table) (s .edges) (a .turned) p b (kp .listed));
+            shaped = ⊎-elim (λ br. inl (turned-broken ld p h br)) (λ ed. inr (rw (turned-polygons ld p h) (edged-turned (polygons (a .entries) (a .starts) (a .firsts) (s .polygons)) (a .table) (s .edges) (a .turned) (s .fixed) p b ed))) (kp .shaped);
             shown = sh';
           };
         };
-        is = rw (turned-rings ld p h, take-set-lt (s .polygons) (a .stamps) p number h);
+        is = rw (turned-polygons ld p h, take-set-lt (s .polygons) (a .stamps) p number h);
       })
