@@ -35,7 +35,7 @@ fn normal_of(points: &[i32; 1536], entries: &[u16; 1024], starts: &[u16; 1025], 
     let from = starts[q] as usize;
     let to = starts[q + 1] as usize;
     let all = &entries[..];
-    normal::normal_of(points, &all[from..to])
+    normal::normal(points, &all[from..to])
 }
 
 // 06 of all entries, with a normal n: the entries of a polygon's rings stand one after another.

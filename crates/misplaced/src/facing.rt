@@ -32,7 +32,7 @@ fn faces(points: &[i32; 1536], ring: &[u16], c: i64, axis: Axis) -> bool
     requires { ⌜ (1 ≤ length (now ring)) × (Small 10160000000000 c) ⌝ }
     ensures { λ r. ⌜ r ≡ not (isOpposite c (componentOf axis (pointsOf (now (points .entry))) (now (ring .entry)))) ⌝ }
 {
-    let n = normal::normal_of(points, ring);
+    let n = normal::normal(points, ring);
     let d = component(n, axis);
     !(((0 < c) & (d < 0)) | ((c < 0) & (0 < d)))
 }

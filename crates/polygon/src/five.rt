@@ -103,7 +103,7 @@ pub fn first_crossed(points: &[i32; 1536], ring: &[u16]) -> usize
     requires { ⌜ 1 ≤ length (now ring) ⌝ }
     ensures { λ r. ⌜ r ≡ crossedAt (edgesIn (largestAxis (normal (places (pointsOf (now (points .entry))) (now (ring .entry))))) (places (pointsOf (now (points .entry))) (now (ring .entry)))) ⌝ }
 {
-    let n = normal::normal_of(points, ring);
+    let n = normal::normal(points, ring);
     columns::first_crossed(points, ring, axes::largest_axis(n))
 }
 
@@ -119,6 +119,23 @@ pub fn part_of(points: &[i32; 1536], ring: &[u16], n: Place) -> i64
     space::dot(n, space::place_of(points, first))
 }
 
+// The first of checks 01 to 05 that fails, each asked in its turn. What polygons of one ring go by is called from one place alone, since
+// the compiler takes out of line what it finds called from two.
+fn one_by_one(points: &[i32; 1536], ring: &[u16], n: Place) -> u16
+    requires { ⌜ Coords (now points) ⌝ }
+    requires { ⌜ Known (now ring) ⌝ }
+    requires { ⌜ asPoint n ≡ normal (places (pointsOf (now points)) (now ring)) ⌝ }
+    ensures { λ r. ⌜ r ≡ keptFinding (ringFinding (pointsOf (now (points .entry))) (now (ring .entry))) ⌝ }
+{
+    if ring.len() < 4 {
+        return 1;
+    }
+    if !ring::is_closed(ring) {
+        return 2;
+    }
+    third_to_fifth(points, ring, n)
+}
+
 // What one of several rings shows by itself: the first of checks 01 to 05 that it fails, and its part.
 pub fn look_at_ring(points: &[i32; 1536], ring: &[u16]) -> Look
     requires { ⌜ Coords (now points) ⌝ }
@@ -129,8 +146,8 @@ pub fn look_at_ring(points: &[i32; 1536], ring: &[u16]) -> Look
     if ring.len() == 0 {
         return Look { kept: 1, part: 0 };
     }
-    let n = normal::normal_of(points, ring);
+    let n = normal::normal(points, ring);
     let part = part_of(points, ring, n);
-    let kept = first_of_five(points, ring, n);
+    let kept = one_by_one(points, ring, n);
     Look { kept, part }
 }

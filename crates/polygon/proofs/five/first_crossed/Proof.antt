@@ -12,11 +12,11 @@ use Rattle.polygon.specs.Ring.{edgesIn}
 use Rattle.polygon.proofs.five.first_crossed.Statement.{statement}
 use Rattle.polygon.proofs.five.first_crossed.Tie as tie
 
-normal-of-requires : tie.Need-normal-of-requires
-normal-of-requires c κs = search needs
+normal-requires : tie.Need-normal-requires
+normal-requires c κs = search needs
 
 largest-axis-requires : tie.Need-largest-axis-requires
-largest-axis-requires c κs = let s = c .before .before in near-same (c .normal-of .ensures) (normal-near (s .pre .0) (s .pre .1 .0))
+largest-axis-requires c κs = let s = c .before .before in near-same (c .normal .ensures) (normal-near (s .pre .0) (s .pre .1 .0))
 
 first-crossed-requires : tie.Need-first-crossed-requires
 first-crossed-requires c κs = search needs
@@ -24,7 +24,7 @@ first-crossed-requires c κs = search needs
 returns : tie.Need-returns
 returns c =
     let a = c .before .before .before .before .args in
-    c .first-crossed .ensures ∙ ap (λ (x : Axis). crossedAt (edgesIn x (places (pointsOf (a .points .now)) (a .ring .now)))) (c .before .largest-axis .ensures ∙ ap largestAxis (c .before .before .normal-of .ensures))
+    c .first-crossed .ensures ∙ ap (λ (x : Axis). crossedAt (edgesIn x (places (pointsOf (a .points .now)) (a .ring .now)))) (c .before .largest-axis .ensures ∙ ap largestAxis (c .before .before .normal .ensures))
 
 pub first-crossed-spec : {M : Type 1} → statement M
-first-crossed-spec = tie.close (tie.spec normal-of-requires largest-axis-requires first-crossed-requires returns)
+first-crossed-spec = tie.close (tie.spec normal-requires largest-axis-requires first-crossed-requires returns)

@@ -14,24 +14,24 @@ returns c =
     let a = c .before .before .args in
     (found-short (pointsOf (a .points .now)) (a .ring .now) (omega arith), part-none (pointsOf (a .points .now)) (a .ring .now) (omega arith))
 
-normal-of-requires : tie.Need-normal-of-requires
-normal-of-requires c κs = search needs
+normal-requires : tie.Need-normal-requires
+normal-requires c κs = search needs
 
 part-of-requires : tie.Need-part-of-requires
-part-of-requires c κs = let s = c .before .before .before in (s .pre .0, (s .pre .1, (omega (arith, c .before .if1 .left), c .normal-of .ensures)))
+part-of-requires c κs = let s = c .before .before .before in (s .pre .0, (s .pre .1, (omega (arith, c .before .if1 .left), c .normal .ensures)))
 
-first-of-five-requires : tie.Need-first-of-five-requires
-first-of-five-requires c κs = search needs
+one-by-one-requires : tie.Need-one-by-one-requires
+one-by-one-requires c κs = search needs
 
 returns-2 : tie.Need-returns-2
-returns-2 c = (c .first-of-five .ensures, call-is w64 (c .before .part-of .ok) (c .before .part-of .ensures))
+returns-2 c = (c .one-by-one .ensures, call-is w64 (c .before .part-of .ok) (c .before .part-of .ensures))
 
 pub look-at-ring-spec : {M : Type 1} → statement M
 look-at-ring-spec =
     tie.close
     (tie.spec
     returns
-    normal-of-requires
+    normal-requires
     part-of-requires
-    first-of-five-requires
+    one-by-one-requires
     returns-2)
