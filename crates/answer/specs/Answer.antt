@@ -19,6 +19,6 @@ told finding position stamp part = digits 2 0 ++ digits 2 finding ++ digits 4 po
 unfoldable pub across : ℕ → ℕ → ℕ → List ℕ
 across users lowest second = digits 2 0 ++ digits 4 users ++ digits 4 lowest ++ digits 4 second
 
-unfoldable pub answer-computes : Unit {0}
+unfoldable pub answer_computes : Unit {0}
 unfolding plain reported told across
-answer-computes = tt
+answer_computes = tt

@@ -9,18 +9,18 @@ use mathlib.Core.List.{List, [], ◌∷◌}
 use lib.ListN.{length, get_or, set, length-set}
 use lib.Seq.{get_or-set_same}
 use Rattle.reach.specs.Reach.{Reach, start, step}
-use Rattle.words.specs.held.Words.{polyOf}
+use Rattle.words.specs.held.Words.{poly_from}
 use Rattle.reach.specs.held.Marking.{Marked, zeros, Joined, Flooded}
 use Rattle.apart.specs.held.Reaching.{Seeded, Last, Queue, Widened}
 use Rattle.words.specs.held.Words.{Mate}
-use Rattle.reach.specs.laws.Marks.{at_set, zeros-lt, mark-new, mark-stays, mark-either, mark-bits}
+use Rattle.reach.specs.laws.Marks.{at_set, zeros_lt, mark_new, mark_stays, mark_either, mark-bits}
 use Rattle.words.specs.laws.Mates.{mate-up, mate-down, mate_one}
 use Rattle.reach.specs.laws.Joined.{mate-joined}
 
 -- ---- one node more
 module _ (m f : List ℕ) (t q : ℕ) (s : Queue m f t) where
-  pub note-old : Marked m q → Widened (λ e. e ≡ q) m f t m f t
-  note-old h = record {
+  pub note_old : Marked m q → Widened (λ e. e ≡ q) m f t m f t
+  note_old h = record {
     queue = s;
     grows = λ p k. k;
     kept = λ k _. refl;
@@ -34,7 +34,7 @@ module _ (m f : List ℕ) (t q : ℕ) (s : Queue m f t) where
     inside = omega (arith, s.marks.size)
 
     fell : zeros (set m q 1) < zeros m
-    fell = zeros-lt m q inside z
+    fell = zeros_lt m q inside z
 
     pub note-room : t < 256
     note-room = omega (arith, fell, s.room)
@@ -53,10 +53,10 @@ module _ (m f : List ℕ) (t q : ℕ) (s : Queue m f t) where
     placed = get_or-set_same f t q 0 within
 
     held : (k : ℕ) → k < t + 1 → Marked (set m q 1) (get_or (set f t q) k 0) × (get_or (set f t q) k 0 < 256)
-    held k lt = by_cases (ℕ_discrete k t) (λ e. subst (λ (x : ℕ). Marked (set m q 1) x × (x < 256)) (sym (ap (λ (y : ℕ). get_or (set f t q) y 0) e ∙ placed)) (mark-new m q inside, low)) (λ n. let w = s.held k (omega arith) in subst (λ (x : ℕ). Marked (set m q 1) x × (x < 256)) (sym (same k (omega arith))) (mark-stays m q inside (get_or f k 0) w.0, w.1))
+    held k lt = by_cases (ℕ_discrete k t) (λ e. subst (λ (x : ℕ). Marked (set m q 1) x × (x < 256)) (sym (ap (λ (y : ℕ). get_or (set f t q) y 0) e ∙ placed)) (mark_new m q inside, low)) (λ n. let w = s.held k (omega arith) in subst (λ (x : ℕ). Marked (set m q 1) x × (x < 256)) (sym (same k (omega arith))) (mark_stays m q inside (get_or f k 0) w.0, w.1))
 
     listed : (p : ℕ) → Marked (set m q 1) p → (k : ℕ) × (k < t + 1) × (get_or (set f t q) k 0 ≡ p)
-    listed p h = ⊎_elim (λ (e : p ≡ q). (t, omega arith, placed ∙ sym e)) (λ (g : Marked m p). let k = s.listed p g in (k.0, omega (arith, k.1), same k.0 k.1 ∙ k.2)) (mark-either m q inside p h)
+    listed p h = ⊎_elim (λ (e : p ≡ q). (t, omega arith, placed ∙ sym e)) (λ (g : Marked m p). let k = s.listed p g in (k.0, omega (arith, k.1), same k.0 k.1 ∙ k.2)) (mark_either m q inside p h)
 
     -- q had no mark, and all that stand before it have one
     once : (j k : ℕ) → j < k → k < t + 1 → get_or (set f t q) j 0 ≡ get_or (set f t q) k 0 → ⊥
@@ -78,11 +78,11 @@ module _ (m f : List ℕ) (t q : ℕ) (s : Queue m f t) where
         listed = listed;
         once = once;
       };
-      grows = mark-stays m q inside;
+      grows = mark_stays m q inside;
       kept = same;
       longer = omega arith;
-      sound = λ p h. ⊎_elim inr inl (mark-either m q inside p h);
-      whole = λ p e. subst (λ (x : ℕ). Marked (set m q 1) x) (sym e) (mark-new m q inside);
+      sound = λ p h. ⊎_elim inr inl (mark_either m q inside p h);
+      whole = λ p e. subst (λ (x : ℕ). Marked (set m q 1) x) (sym e) (mark_new m q inside);
     }
 
 -- ---- the polygons across from one
@@ -93,10 +93,10 @@ pub record Visiting (l : List ℕ) (p : ℕ) (m₀ f₀ : List ℕ) (t₀ : ℕ)
   pub grows : (q : ℕ) → Marked m₀ q → Marked m q
   pub kept : (k : ℕ) → k < t₀ → get_or f k 0 ≡ get_or f₀ k 0
   pub longer : t₀ ≤ t
-  pub sound : (q : ℕ) → Marked m q → Marked m₀ q ⊎ Joined l polyOf p q
+  pub sound : (q : ℕ) → Marked m q → Marked m₀ q ⊎ Joined l poly_from p q
   pub within : j ≤ length l
-  pub own : (c : ℕ) → j ≡ c + 1 → polyOf (get_or l c 0) ≡ p
-  pub done : (a b : ℕ) → j ≤ a → a < length l → polyOf (get_or l a 0) ≡ p → Mate (length l) a b → Marked m (polyOf (get_or l b 0))
+  pub own : (c : ℕ) → j ≡ c + 1 → poly_from (get_or l c 0) ≡ p
+  pub done : (a b : ℕ) → j ≤ a → a < length l → poly_from (get_or l a 0) ≡ p → Mate (length l) a b → Marked m (poly_from (get_or l b 0))
 
 pub visit-none : (l : List ℕ) (p : ℕ) (m f : List ℕ) (t j : ℕ) → Queue m f t → Last l p (length l) j → Visiting l p m f t m f t j
 visit-none l p m f t j s e = record {
@@ -111,18 +111,18 @@ visit-none l p m f t j s e = record {
 }
 
 module _ (l : List ℕ) (p : ℕ) (m₀ f₀ : List ℕ) (t₀ : ℕ) (m f : List ℕ) (t j : ℕ) (s : Visiting l p m₀ f₀ t₀ m f t j) where
-  module _ (i k q : ℕ) (e : j ≡ i + 1) (here : Marked m₀ p) (mate : Mate (length l) i k) (eq : q ≡ polyOf (get_or l k 0)) (m' f' : List ℕ) (t' j' : ℕ) (w : Widened (λ x. x ≡ q) m f t m' f' t') (next : Last l (polyOf (get_or l i 0)) i j') where
-    mine : polyOf (get_or l i 0) ≡ p
+  module _ (i k q : ℕ) (e : j ≡ i + 1) (here : Marked m₀ p) (mate : Mate (length l) i k) (eq : q ≡ poly_from (get_or l k 0)) (m' f' : List ℕ) (t' j' : ℕ) (w : Widened (λ x. x ≡ q) m f t m' f' t') (next : Last l (poly_from (get_or l i 0)) i j') where
+    mine : poly_from (get_or l i 0) ≡ p
     mine = s.own i e
 
     here-below : i < length l
     here-below = omega (arith, s.within)
 
-    across : (x : ℕ) → x ≡ q → Marked m₀ x ⊎ Joined l polyOf p x
-    across x z = ⊎_elim (λ (v : i ≡ k). inl (subst (λ (y : ℕ). Marked m₀ y) (sym (z ∙ (eq ∙ (ap (λ (y : ℕ). polyOf (get_or l y 0)) (sym v) ∙ mine)))) here)) (λ (v : Joined l polyOf (polyOf (get_or l i 0)) (polyOf (get_or l k 0))). inr (subst (λ (y : ℕ). Joined l polyOf p y) (sym (z ∙ eq)) (subst (λ (y : ℕ). Joined l polyOf y (polyOf (get_or l k 0))) mine v))) (mate-joined l polyOf i k here-below mate)
+    across : (x : ℕ) → x ≡ q → Marked m₀ x ⊎ Joined l poly_from p x
+    across x z = ⊎_elim (λ (v : i ≡ k). inl (subst (λ (y : ℕ). Marked m₀ y) (sym (z ∙ (eq ∙ (ap (λ (y : ℕ). poly_from (get_or l y 0)) (sym v) ∙ mine)))) here)) (λ (v : Joined l poly_from (poly_from (get_or l i 0)) (poly_from (get_or l k 0))). inr (subst (λ (y : ℕ). Joined l poly_from p y) (sym (z ∙ eq)) (subst (λ (y : ℕ). Joined l poly_from y (poly_from (get_or l k 0))) mine v))) (mate-joined l poly_from i k here-below mate)
 
-    done : (a b : ℕ) → j' ≤ a → a < length l → polyOf (get_or l a 0) ≡ p → Mate (length l) a b → Marked m' (polyOf (get_or l b 0))
-    done a b ge lt z y = by_cases (dec_lt a i) (λ below. absurd (next.none a ge below (z ∙ sym mine))) (λ above. by_cases (ℕ_discrete a i) (λ v. w.whole (polyOf (get_or l b 0)) (ap (λ (x : ℕ). polyOf (get_or l x 0)) (mate_one (length l) i b k (subst (λ (x : ℕ). Mate (length l) x b) v y) mate) ∙ sym eq)) (λ n. w.grows (polyOf (get_or l b 0)) (s.done a b (omega arith) lt z y)))
+    done : (a b : ℕ) → j' ≤ a → a < length l → poly_from (get_or l a 0) ≡ p → Mate (length l) a b → Marked m' (poly_from (get_or l b 0))
+    done a b ge lt z y = by_cases (dec_lt a i) (λ below. absurd (next.none a ge below (z ∙ sym mine))) (λ above. by_cases (ℕ_discrete a i) (λ v. w.whole (poly_from (get_or l b 0)) (ap (λ (x : ℕ). poly_from (get_or l x 0)) (mate_one (length l) i b k (subst (λ (x : ℕ). Mate (length l) x b) v y) mate) ∙ sym eq)) (λ n. w.grows (poly_from (get_or l b 0)) (s.done a b (omega arith) lt z y)))
 
     pub visit-more : Visiting l p m₀ f₀ t₀ m' f' t' j'
     visit-more = record {
@@ -136,8 +136,8 @@ module _ (l : List ℕ) (p : ℕ) (m₀ f₀ : List ℕ) (t₀ : ℕ) (m f : Lis
       done = done;
     }
 
-  pub visit-done : j ≡ 0 → Widened (Joined l polyOf p) m₀ f₀ t₀ m f t
-  visit-done z = record {
+  pub visit_done : j ≡ 0 → Widened (Joined l poly_from p) m₀ f₀ t₀ m f t
+  visit_done z = record {
     queue = s.queue;
     grows = s.grows;
     kept = s.kept;
@@ -149,7 +149,7 @@ module _ (l : List ℕ) (p : ℕ) (m₀ f₀ : List ℕ) (t₀ : ℕ) (m f : Lis
       low : (a : ℕ) → j ≤ a
       low a = omega arith
 
-      whole : (q : ℕ) (v : Joined l polyOf p q) → ((polyOf (get_or l v.at 0) ≡ p) × (polyOf (get_or l (v.at + 1) 0) ≡ q)) ⊎ ((polyOf (get_or l (v.at + 1) 0) ≡ p) × (polyOf (get_or l v.at 0) ≡ q)) → Marked m q
+      whole : (q : ℕ) (v : Joined l poly_from p q) → ((poly_from (get_or l v.at 0) ≡ p) × (poly_from (get_or l (v.at + 1) 0) ≡ q)) ⊎ ((poly_from (get_or l (v.at + 1) 0) ≡ p) × (poly_from (get_or l v.at 0) ≡ q)) → Marked m q
       whole q v (inl w) = subst (λ (x : ℕ). Marked m x) w.1 (s.done v.at (v.at + 1) (low v.at) (omega (arith, v.within)) w.0 (mate-up (length l) v.at v.even v.within))
       whole q v (inr w) = subst (λ (x : ℕ). Marked m x) w.1 (s.done (v.at + 1) v.at (low (v.at + 1)) v.within w.0 (mate-down (length l) v.at v.even v.within))
 
@@ -200,8 +200,8 @@ take_none R m f s e z = record {
     lone j k a b = omega arith
 
 module _ (R : ℕ → ℕ → Type 0) (m₀ m f : List ℕ) (from to : ℕ) (s : Taking R m₀ m f from to) where
-  pub take-small : to ≤ 256
-  take-small = omega (arith, s.queue.room)
+  pub take_small : to ≤ 256
+  take_small = omega (arith, s.queue.room)
 
   module _ (h : from < to) (m' f' : List ℕ) (to' : ℕ) (w : Widened (R (get_or f from 0)) m f to m' f' to') where
     pub take_more : Taking R m₀ m' f' (from + 1) to'

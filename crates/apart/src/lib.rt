@@ -1,13 +1,13 @@
 // Check 0B: what polygons polygon 0 reaches across the edges. The marks of the 256 polygons are bits in four words.
 
 ghost use Rattle.std.specs.Prelude.{◌≡◌, true, ◌%◌, ◌≤◌, ◌<◌, length};
-ghost use Rattle.bits.specs.held.Bits.{marksOf};
-ghost use Rattle.words.specs.held.Words.{polyOf};
+ghost use Rattle.bits.specs.held.Bits.{marks_of};
+ghost use Rattle.words.specs.held.Words.{poly_from};
 ghost use Rattle.reach.specs.held.Marking.{Marked, Joined, Flooded};
 ghost use Rattle.apart.specs.held.Reaching.{SweptUp, SweptDown, Spread, LowestBare, LowestCut, Seeded, Listed, Queue, Widened};
 
 fn poly_of(w: u64) -> usize
-    ensures { (result ≡ polyOf w) × (result < 256) }
+    ensures { (result ≡ poly_from w) × (result < 256) }
 {
     (w / 2097152 % 256) as usize
 }
@@ -16,7 +16,7 @@ fn poly_of(w: u64) -> usize
 // on both of a pair are marked or neither.
 fn sweep_up(words: &[u64], marks: &mut [u64; 4]) -> usize
     requires { length marks.old ≡ 4 }
-    ensures { (length marks.new ≡ 4) × SweptUp words.now (marksOf marks.old) (marksOf marks.new) result }
+    ensures { (length marks.new ≡ 4) × SweptUp words.now (marks_of marks.old) (marks_of marks.new) result }
 {
     let mut last: usize = 0;
     let mut i = 0;
@@ -33,7 +33,7 @@ fn sweep_up(words: &[u64], marks: &mut [u64; 4]) -> usize
 // The same from a place down to the first; 1 where some polygon was marked.
 fn sweep_down(words: &[u64], from: usize, marks: &mut [u64; 4]) -> usize
     requires { (length marks.old ≡ 4) × (from ≤ length words.now) × (from % 2 ≡ 0) }
-    ensures { (length marks.new ≡ 4) × SweptDown words.now from (marksOf marks.old) (marksOf marks.new) result }
+    ensures { (length marks.new ≡ 4) × SweptDown words.now from (marks_of marks.old) (marks_of marks.new) result }
 {
     let mut some: usize = 0;
     let mut i = from;
@@ -50,7 +50,7 @@ fn sweep_down(words: &[u64], from: usize, marks: &mut [u64; 4]) -> usize
 // The lowest of the first n polygons that has no mark, or n.
 fn lowest_below(marks: &[u64; 4], n: usize) -> usize
     requires { (length marks.now ≡ 4) × (n ≤ 256) }
-    ensures { LowestBare (marksOf marks.now) n result }
+    ensures { LowestBare (marks_of marks.now) n result }
 {
     let r = bits::lowest_bare(marks);
     if r < n { r } else { n }
@@ -60,7 +60,7 @@ fn lowest_below(marks: &[u64; 4], n: usize) -> usize
 // all of the first n are marked, or the second marks none. It need not look at the pairs that agree since the first.
 fn spread(words: &[u64], n: usize, marks: &mut [u64; 4]) -> bool
     requires { (length marks.old ≡ 4) × (n ≤ 256) }
-    ensures { (length marks.new ≡ 4) × (result ≡ true → Spread (Joined words.now polyOf) n (marksOf marks.old) (marksOf marks.new)) }
+    ensures { (length marks.new ≡ 4) × (result ≡ true → Spread (Joined words.now poly_from) n (marks_of marks.old) (marks_of marks.new)) }
 {
     let last = sweep_up(words, marks);
     if lowest_below(marks, n) == n {
@@ -88,8 +88,8 @@ fn lists(words: &[u64], head: &mut [u16; 256], chain: &mut [u16; 1024])
 
 // Marks a polygon that has no mark, and puts it last among those found; how many there are.
 fn note(marks: &mut [u64; 4], found: &mut [u16; 256], to: usize, q: usize) -> usize
-    requires { (length marks.old ≡ 4) × Queue (marksOf marks.old) found.old to × (q < 256) }
-    ensures { (length marks.new ≡ 4) × Widened (λ p. p ≡ q) (marksOf marks.old) found.old to (marksOf marks.new) found.new result }
+    requires { (length marks.old ≡ 4) × Queue (marks_of marks.old) found.old to × (q < 256) }
+    ensures { (length marks.new ≡ 4) × Widened (λ p. p ≡ q) (marks_of marks.old) found.old to (marks_of marks.new) found.new result }
 {
     if bits::is_marked(marks, q) {
         return to;
@@ -109,8 +109,8 @@ fn visit(
     found: &mut [u16; 256],
     to: usize,
 ) -> usize
-    requires { (length words.now ≤ 1024) × Listed words.now head.now chain.now (length words.now) × (length marks.old ≡ 4) × Queue (marksOf marks.old) found.old to × Marked (marksOf marks.old) p × (p < 256) }
-    ensures { (length marks.new ≡ 4) × Widened (Joined words.now polyOf p) (marksOf marks.old) found.old to (marksOf marks.new) found.new result }
+    requires { (length words.now ≤ 1024) × Listed words.now head.now chain.now (length words.now) × (length marks.old ≡ 4) × Queue (marks_of marks.old) found.old to × Marked (marks_of marks.old) p × (p < 256) }
+    ensures { (length marks.new ≡ 4) × Widened (Joined words.now poly_from p) (marks_of marks.old) found.old to (marks_of marks.new) found.new result }
 {
     let n = words.len();
     let mut t = to;
@@ -126,8 +126,8 @@ fn visit(
 
 // Takes each polygon once, in the order in which they are found, and so each word once, whatever the numbering.
 fn take_all(words: &[u64], head: &[u16; 256], chain: &[u16; 1024], marks: &mut [u64; 4])
-    requires { (length words.now ≤ 1024) × Listed words.now head.now chain.now (length words.now) × (length marks.old ≡ 4) × Seeded (marksOf marks.old) }
-    ensures { (length marks.new ≡ 4) × Flooded (Joined words.now polyOf) (marksOf marks.old) (marksOf marks.new) }
+    requires { (length words.now ≤ 1024) × Listed words.now head.now chain.now (length words.now) × (length marks.old ≡ 4) × Seeded (marks_of marks.old) }
+    ensures { (length marks.new ≡ 4) × Flooded (Joined words.now poly_from) (marks_of marks.old) (marks_of marks.new) }
 {
     let mut found = [0u16; 256];
     let mut from: usize = 0;
@@ -141,8 +141,8 @@ fn take_all(words: &[u64], head: &[u16; 256], chain: &[u16; 1024], marks: &mut [
 
 // Marks what polygon 0 reaches across the pairs.
 fn take(words: &[u64], marks: &mut [u64; 4])
-    requires { (length words.now ≤ 1024) × (length marks.old ≡ 4) × Seeded (marksOf marks.old) }
-    ensures { (length marks.new ≡ 4) × Flooded (Joined words.now polyOf) (marksOf marks.old) (marksOf marks.new) }
+    requires { (length words.now ≤ 1024) × (length marks.old ≡ 4) × Seeded (marks_of marks.old) }
+    ensures { (length marks.new ≡ 4) × Flooded (Joined words.now poly_from) (marks_of marks.old) (marks_of marks.new) }
 {
     let mut head = [0u16; 256];
     let mut chain = [0u16; 1024];
@@ -152,7 +152,7 @@ fn take(words: &[u64], marks: &mut [u64; 4])
 
 // Polygon 0 alone is marked.
 fn seeded() -> [u64; 4]
-    ensures { (length result ≡ 4) × Seeded (marksOf result) }
+    ensures { (length result ≡ 4) × Seeded (marks_of result) }
 {
     let mut marks = [0u64; 4];
     bits::mark(&mut marks, 0);

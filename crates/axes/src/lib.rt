@@ -1,14 +1,14 @@
 // The axis that is dropped for check 05.
 ghost use Rattle.std.specs.Prelude.{◌≡◌};
-ghost use Rattle.plane.specs.Plane.{largestAxis};
-ghost use Rattle.space.specs.held.Points.{asPoint, Near};
+ghost use Rattle.plane.specs.Plane.{largest_axis_of};
+ghost use Rattle.space.specs.held.Points.{as_point, Near};
 
 use space::{Axis, Place};
 
 // "the axis where N is largest in size (ties: x, then y)"
 pub fn largest_axis(n: Place) -> Axis
-    requires { Near 10160000000000 (asPoint n) }
-    ensures { result ≡ largestAxis (asPoint n) }
+    requires { Near 10160000000000 (as_point n) }
+    ensures { result ≡ largest_axis_of (as_point n) }
 {
     let x = n.x;
     let y = n.y;

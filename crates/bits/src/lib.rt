@@ -2,8 +2,8 @@
 // number that has none.
 
 ghost use Rattle.std.specs.Prelude.{◌≡◌, ◌/◌, ◌≤◌, ◌<◌, eqb, length, get_or, set};
-ghost use Rattle.bits.specs.Lowest.{lowestBare};
-ghost use Rattle.bits.specs.held.Bits.{bits_of, marksOf, sum_of};
+ghost use Rattle.bits.specs.Lowest.{lowest_bare_of};
+ghost use Rattle.bits.specs.held.Bits.{bits_of, marks_of, sum_of};
 
 // Whether bit k of a word is set.
 pub fn is_set(word: u64, k: u64) -> bool
@@ -24,7 +24,7 @@ pub fn with_set(word: u64, k: u64) -> u64
 // Whether p is marked: its mark is bit p % 64 of word p / 64.
 pub fn is_marked(marks: &[u64], p: usize) -> bool
     requires { p / 64 < length marks.now }
-    ensures { result ≡ eqb (get_or (marksOf marks.now) p 0) 1 }
+    ensures { result ≡ eqb (get_or (marks_of marks.now) p 0) 1 }
 {
     let k = (p % 64) as u64;
     is_set(marks[p / 64], k)
@@ -33,7 +33,7 @@ pub fn is_marked(marks: &[u64], p: usize) -> bool
 // Marks p.
 pub fn mark(marks: &mut [u64], p: usize)
     requires { p / 64 < length marks.old }
-    ensures { (length marks.new ≡ length marks.old) × (marksOf marks.new ≡ set (marksOf marks.old) p 1) }
+    ensures { (length marks.new ≡ length marks.old) × (marks_of marks.new ≡ set (marks_of marks.old) p 1) }
 {
     let w = p / 64;
     let bit = (p % 64) as u64;
@@ -42,7 +42,7 @@ pub fn mark(marks: &mut [u64], p: usize)
 
 // How many of a word's lowest bits are set, up to the first that is not: the trailing zeros of its complement.
 fn trailing_ones(word: u64) -> usize
-    ensures { (result ≡ lowestBare (bits_of 64 word)) × (result ≤ 64) }
+    ensures { (result ≡ lowest_bare_of (bits_of 64 word)) × (result ≤ 64) }
 {
     u64::trailing_zeros(!word) as usize
 }
@@ -50,7 +50,7 @@ fn trailing_ones(word: u64) -> usize
 // The lowest number that has no mark, or how many numbers there are: the trailing ones of each word in turn, up to the first that is not full.
 pub fn lowest_bare(marks: &[u64]) -> usize
     requires { length marks.now ≤ 16 }
-    ensures { result ≡ lowestBare (marksOf marks.now) }
+    ensures { result ≡ lowest_bare_of (marks_of marks.now) }
 {
     let n = marks.len();
     let mut i = 0;
@@ -74,7 +74,7 @@ fn ones(word: u64) -> usize
 // How many are marked.
 pub fn count(marks: &[u64]) -> usize
     requires { length marks.now ≤ 16 }
-    ensures { result ≡ sum_of (marksOf marks.now) }
+    ensures { result ≡ sum_of (marks_of marks.now) }
 {
     let mut all: usize = 0;
     let mut at = 0;

@@ -9,19 +9,19 @@ use lib.ListN.{drop}
 use lib.IntN.{ℤ}
 use Rattle.whole.specs.Lists.{any, tab}
 use Rattle.whole.specs.laws.Bools.{or_left, or_right}
-use Rattle.crossing.specs.Crossed.{forbidden, crossedAt}
+use Rattle.crossing.specs.Crossed.{forbidden, crossed_at}
 use Rattle.plane.specs.held.Edges.{edge_at}
 use Rattle.boxes.specs.held.Around.{NextClash, Nexts, FirstNext, FirstNear}
 use Rattle.crossing.specs.laws.Pairs.{edges, row_here, row-back-to, row_at, Clear, clear-found, clear-end}
 
 -- ---- edges that follow one another: the first n are looked at
 module _ (us vs : List ℤ) (m : ℕ) where
-  pub nexts-none : Nexts us vs m 0 false
-  nexts-none = record { some = λ e. absurd (false≢true e); none = λ e i h. absurd (omega arith) }
+  pub nexts_none : Nexts us vs m 0 false
+  nexts_none = record { some = λ e. absurd (false≢true e); none = λ e i h. absurd (omega arith) }
 
-  pub nexts-more : {n : ℕ} {r : Bool} → Nexts us vs m n r → n + 1 < m → (clash : Bool)
+  pub nexts_more : {n : ℕ} {r : Bool} → Nexts us vs m n r → n + 1 < m → (clash : Bool)
       → clash ≡ forbidden m (n, edge_at us vs n) (n + 1, edge_at us vs (n + 1)) → Nexts us vs m (n + 1) (r || clash)
-  nexts-more {n} {r} f h clash e = record { some = some r refl; none = λ t i l g. none t i l g (dec_lt i n) }
+  nexts_more {n} {r} f h clash e = record { some = some r refl; none = λ t i l g. none t i l g (dec_lt i n) }
     where
       some : (b : Bool) → r ≡ b → (b || clash) ≡ true → NextClash us vs m (n + 1)
       some true z t = let c = f.some z in record { edge = c.edge; below = omega (arith, c.below); followed = c.followed; clash = c.clash }
@@ -33,19 +33,19 @@ module _ (us vs : List ℤ) (m : ℕ) where
           let z : i ≡ n = omega arith in
           ap (λ (i : ℕ). forbidden m (i, edge_at us vs i) (i + 1, edge_at us vs (i + 1))) z ∙ sym e ∙ or_right r clash t
 
-  pub nexts-end : {n : ℕ} {r : Bool} → Nexts us vs m n r → m ≤ n + 1 → Nexts us vs m m r
-  nexts-end f h =
+  pub nexts_end : {n : ℕ} {r : Bool} → Nexts us vs m n r → m ≤ n + 1 → Nexts us vs m m r
+  nexts_end f h =
       record {
         some = λ t. let c = f.some t in record { edge = c.edge; below = omega (arith, c.followed); followed = c.followed; clash = c.clash };
         none = λ t i l g. f.none t i (omega arith) g;
       }
 
-  pub nexts-false : {n : ℕ} {r : Bool} → Nexts us vs m n r → r ≡ false → Nexts us vs m n false
-  nexts-false f t = record { some = λ e. absurd (false≢true e); none = λ _. f.none t }
+  pub nexts_false : {n : ℕ} {r : Bool} → Nexts us vs m n r → r ≡ false → Nexts us vs m n false
+  nexts_false f t = record { some = λ e. absurd (false≢true e); none = λ _. f.none t }
 
   -- ---- the first that has with the next one
-  pub next-found : {n : ℕ} → Nexts us vs m n false → n + 1 < m → forbidden m (n, edge_at us vs n) (n + 1, edge_at us vs (n + 1)) ≡ true → FirstNext us vs m n
-  next-found f h e = record { within = omega arith; none = f.none refl; some = λ _. (h, e) }
+  pub next_found : {n : ℕ} → Nexts us vs m n false → n + 1 < m → forbidden m (n, edge_at us vs n) (n + 1, edge_at us vs (n + 1)) ≡ true → FirstNext us vs m n
+  next_found f h e = record { within = omega arith; none = f.none refl; some = λ _. (h, e) }
 
   pub next-none : Nexts us vs m m false → FirstNext us vs m m
   next-none f = record { within = omega arith; none = f.none refl; some = λ h. absurd (omega arith) }
@@ -73,9 +73,9 @@ module _ (us vs : List ℤ) (m : ℕ) where
   near_last h e = record { within = omega arith; none = λ i l. absurd (omega arith); some = λ l. near-row 0 (m - 1) (omega arith) (omega arith) e }
 
   -- where no edge before it meets a later one, it is the least that meets any
-  pub clear-near : {r i : ℕ} → FirstNear us vs m r → Clear us vs m i → i ≡ r → i ≡ crossedAt (tab (edge_at us vs) m)
+  pub clear-near : {r i : ℕ} → FirstNear us vs m r → Clear us vs m i → i ≡ r → i ≡ crossed_at (tab (edge_at us vs) m)
   clear-near {r} {i} f c z = go (dec_lt i m)
     where
-      go : Dec (i < m) → i ≡ crossedAt (tab (edge_at us vs) m)
+      go : Dec (i < m) → i ≡ crossed_at (tab (edge_at us vs) m)
       go (yes p) = clear-found us vs m c (omega arith) p (ap (row_at us vs m) z ∙ f.some (omega arith))
       go (no p) = let w = f.within in clear-end us vs m c (omega arith) (omega arith)

@@ -3,9 +3,9 @@
 // Room of 176 numbers holds the ends of edges' boxes from 0 on and of blocks' boxes from 144 on; both are followed by room for eight more.
 ghost use Rattle.std.specs.Prelude.{◌≡◌, true, ◌||◌, ◌⊎◌, ◌+◌, ◌-◌, ◌<◌, ◌≤◌, length, drop};
 ghost use Rattle.whole.specs.Lists.{any, numbered, tab};
-ghost use Rattle.crossing.specs.Crossed.{forbidden, crossedAt};
+ghost use Rattle.crossing.specs.Crossed.{forbidden, crossed_at};
 ghost use Rattle.plane.specs.Plane.{side};
-ghost use Rattle.plane.specs.held.Edges.{asSegment, spot, Close, Ends, edge_at};
+ghost use Rattle.plane.specs.held.Edges.{as_segment, spot, Close, Ends, edge_at};
 ghost use Rattle.crossing.specs.held.Columns.{Spread};
 ghost use Rattle.boxes.specs.held.Around.{Beside, Free, Nexts, FirstNext, FirstNear};
 ghost use Rattle.extents.specs.held.Extents.{Covered};
@@ -118,8 +118,8 @@ fn first_near(us: &[i64], vs: &[i64], m: usize) -> usize
 
 // How far a place lies off an edge's line, and to which side.
 fn off(e: Edge, cu: i64, cv: i64) -> i64
-    requires { (Ends (asSegment e)) × (Close (spot cu cv)) }
-    ensures { result ≡ side (asSegment e).0 (asSegment e).1 (spot cu cv) }
+    requires { (Ends (as_segment e)) × (Close (spot cu cv)) }
+    ensures { result ≡ side (as_segment e).0 (as_segment e).1 (spot cu cv) }
 {
     let au = e.au;
     let av = e.av;
@@ -388,7 +388,7 @@ fn first_past(
     requires spread { Spread us.now vs.now m }
     requires boxes { Boxes us.now vs.now m lus.now hus.now lvs.now hvs.now }
     requires first_near { FirstNear us.now vs.now m near }
-    ensures { result ≡ crossedAt (tab (edge_at us.now vs.now) m) }
+    ensures { result ≡ crossed_at (tab (edge_at us.now vs.now) m) }
 {
     let mut i: usize = 0;
     while i < near {
@@ -405,7 +405,7 @@ fn first_past(
 pub fn first_crossed(us: &[i64], vs: &[i64], m: usize) -> usize
     requires spread { Spread us.now vs.now m }
     requires le_m { (1 ≤ m) × (m ≤ 128) }
-    ensures { result ≡ crossedAt (tab (edge_at us.now vs.now) m) }
+    ensures { result ≡ crossed_at (tab (edge_at us.now vs.now) m) }
 {
     let near = first_near(us, vs, m);
     let mut lus: [u16; 176] = [65535; 176];

@@ -1,11 +1,11 @@
 // The held building: its tables and what is held beside the arrays.
 ghost use Rattle.std.specs.Prelude.{◌≡◌, ◌+◌, ◌<◌, ◌≤◌, length, set};
-ghost use Rattle.polygon.specs.Ring.{findingNumber, findingPosition};
+ghost use Rattle.polygon.specs.Ring.{finding_number_of, finding_position_of};
 
 use polygon::Finding;
 use shell::Shape;
 
-// The check that a report names, with its elements. `checkNumber`, `elementA` and `elementB` give document 01's numbers.
+// The check that a report names, with its elements. `check_number_of`, `element_a_of` and `element_b_of` give document 01's numbers.
 #[derive(Drop)]
 pub enum Verdict {
     Accepted,
@@ -46,7 +46,7 @@ pub fn close_polygon(firsts: &mut [u16; 257], n: usize, end: usize)
 
 // Document 01's number of a finding.
 pub fn finding_number(f: Finding) -> u8
-    ensures { result ≡ findingNumber f }
+    ensures { result ≡ finding_number_of f }
 {
     match f {
         Finding::Sound => 0,
@@ -63,7 +63,7 @@ pub fn finding_number(f: Finding) -> u8
 
 // Where in the ring a finding is met; 0 where it has no position.
 pub fn finding_position(f: Finding) -> u16
-    ensures { result ≡ findingPosition f }
+    ensures { result ≡ finding_position_of f }
 {
     match f {
         Finding::Sound => 0,

@@ -2,10 +2,10 @@
 ghost use Rattle.std.specs.Prelude.{◌≡◌, ◌≤◌, length};
 ghost use Rattle.whole.specs.held.Stored.{zeroed};
 ghost use Rattle.building.specs.Tables.{loaded};
-ghost use Rattle.ring.specs.held.Rings.{polygonAt};
-ghost use Rattle.building.specs.held.Holds.{arrays, heldTables, isUnmendable, Loaded, Sizes, Shown, Did};
+ghost use Rattle.ring.specs.held.Rings.{polygon_at};
+ghost use Rattle.building.specs.held.Holds.{arrays, held_tables, is_unmendable_of, Loaded, Sizes, Shown, Did};
 ghost use Rattle.checks.specs.held.Steps.{Checked};
-ghost use Rattle.checks.specs.held.Mendable.{allMendable, isEarly, Tells, Telling};
+ghost use Rattle.checks.specs.held.Mendable.{all_mendable_of, is_early_of, Tells, Telling};
 ghost use Rattle.checks.specs.held.Writes.{checked, LoadWrites};
 
 use building::Scalars;
@@ -62,7 +62,7 @@ fn clear_turned(turned: &mut [u8; 256])
 
 // Whether a finding as it is kept is one of checks 01 to 03.
 fn is_early(kept: u16) -> bool
-    ensures { result ≡ isEarly kept }
+    ensures { result ≡ is_early_of kept }
 {
     let n = kept % 16;
     (1 <= n) & (n <= 3)
@@ -83,7 +83,7 @@ fn is_unmendable(
     p: usize,
 ) -> bool
     requires { Tells entries.now starts.now firsts.now findings.now p }
-    ensures { result ≡ isUnmendable (polygonAt entries.now starts.now firsts.now p) }
+    ensures { result ≡ is_unmendable_of (polygon_at entries.now starts.now firsts.now p) }
 {
     let from = wide(firsts[p]);
     let to = wide(firsts[p + 1]);
@@ -102,7 +102,7 @@ fn all_mendable(
     n: usize,
 ) -> bool
     requires { Telling entries.now starts.now firsts.now findings.now n }
-    ensures { result ≡ allMendable entries.now starts.now firsts.now n }
+    ensures { result ≡ all_mendable_of entries.now starts.now firsts.now n }
 {
     let mut i = 0;
     while i < n {
@@ -154,7 +154,7 @@ pub fn check_all(
 ) -> Scalars
     requires loaded { Loaded points.now entries.now starts.now firsts.now s }
     requires sizes { Sizes (arrays points.now entries.now starts.now firsts.now stamps.old findings.old parts.old table.old turned.old) }
-    ensures did { Did (loaded (heldTables points.now entries.now starts.now firsts.now s)) (arrays points.now entries.now starts.now firsts.now stamps.new findings.new parts.new table.new turned.new) result }
+    ensures did { Did (loaded (held_tables points.now entries.now starts.now firsts.now s)) (arrays points.now entries.now starts.now firsts.now stamps.new findings.new parts.new table.new turned.new) result }
     ensures load_writes { LoadWrites (arrays points.now entries.now starts.now firsts.now stamps.old findings.old parts.old table.old turned.old) s stamps.new findings.new parts.new table.new turned.new result }
 {
     check_rings(points, entries, starts, firsts, findings, parts, s);

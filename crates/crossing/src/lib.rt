@@ -1,7 +1,7 @@
 // Check 05 over the columns of a ring's places: pair by pair of edges.
 ghost use Rattle.std.specs.Prelude.{◌≡◌, ◌+◌, ◌<◌, drop};
 ghost use Rattle.whole.specs.Lists.{any, numbered, tab};
-ghost use Rattle.crossing.specs.Crossed.{forbidden, crossedAt};
+ghost use Rattle.crossing.specs.Crossed.{forbidden, crossed_at};
 ghost use Rattle.plane.specs.held.Edges.{edge_at};
 ghost use Rattle.crossing.specs.held.Columns.{Spread};
 
@@ -41,7 +41,7 @@ fn clashes(us: &[i64], vs: &[i64], m: usize, i: usize) -> bool
 // The first of m edges that does so with a later one, and so the least that does with any; m if there is none.
 pub fn first_crossed(us: &[i64], vs: &[i64], m: usize) -> usize
     requires { Spread us.now vs.now m }
-    ensures { result ≡ crossedAt (tab (edge_at us.now vs.now) m) }
+    ensures { result ≡ crossed_at (tab (edge_at us.now vs.now) m) }
 {
     let mut i: usize = 0;
     while i < m {

@@ -1,7 +1,7 @@
 // What is answered to a line: a refusal's digits, or `00` alone.
 ghost use Rattle.std.specs.Prelude.{◌≡◌, ◌+◌, ◌≤◌, length};
 ghost use Rattle.building.specs.held.Holds.{Arrays};
-ghost use Rattle.service.specs.Service.{refusalNumber, refused, isAccepted};
+ghost use Rattle.service.specs.Service.{refusal_number_of, refused, is_accepted_of};
 ghost use Rattle.desk.specs.held.Holds.{service, Valid, Did};
 
 use super::Desk;
@@ -9,7 +9,7 @@ use service::Refusal;
 
 // Whether no test refuses.
 pub fn is_accepted(r: Refusal) -> bool
-    ensures { result ≡ isAccepted r }
+    ensures { result ≡ is_accepted_of r }
 {
     let number = refusal_number(r);
     number == 0
@@ -17,7 +17,7 @@ pub fn is_accepted(r: Refusal) -> bool
 
 // Document 01's number of a refusal.
 fn refusal_number(r: Refusal) -> u8
-    ensures { result ≡ refusalNumber r }
+    ensures { result ≡ refusal_number_of r }
 {
     match r {
         Refusal::Accepted => 0,

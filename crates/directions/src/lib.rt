@@ -1,13 +1,13 @@
 // Check 0A among the others: the first of checks 07 to 0C that fails for the rings as they stand now.
 ghost use Rattle.std.specs.Prelude.{◌≡◌, ◌<◌, ◌≤◌, length, take};
-ghost use Rattle.shell.specs.held.Kept.{early, orAlike, nowOf, headingOf, alikeIn};
+ghost use Rattle.shell.specs.held.Kept.{early, or_alike, now_of, heading_of, alike_in};
 
 use shell::Shape;
 
 // The direction in which a word's step is gone now.
 fn heading(w: u64, turned: &[u8; 256]) -> u64
     requires { length turned.now ≡ 256 }
-    ensures { result ≡ headingOf turned.now w }
+    ensures { result ≡ heading_of turned.now w }
 {
     let p = (w / 2097152 % 256) as usize;
     let f = flag_of(turned[p]);
@@ -23,7 +23,7 @@ fn flag_of(x: u8) -> u64
 // Check 0A, where each edge is used twice: the edge of the first pair gone in one direction, or the verdict without it.
 fn alike(words: &[u64], turned: &[u8; 256], fixed: Shape) -> Shape
     requires { length turned.now ≡ 256 }
-    ensures { result ≡ orAlike fixed (alikeIn turned.now words.now) }
+    ensures { result ≡ or_alike fixed (alike_in turned.now words.now) }
 {
     let mut i = 0;
     while i + 1 < words.len() {
@@ -54,10 +54,10 @@ fn is_early(s: Shape) -> bool
 }
 
 // The check of 07 to 0C that fails first for the rings as they stand now: `turned` has 1 for each polygon that stands turned.
-// `laws/Now` (`now-is`) says so of the rings that table, flags and verdict belong to.
+// `laws/Now` (`now_is`) says so of the rings that table, flags and verdict belong to.
 pub fn shape_now(table: &[u64; 1024], count: usize, turned: &[u8; 256], fixed: Shape) -> Shape
     requires { (count ≤ 1024) × (length table.now ≡ 1024) × (length turned.now ≡ 256) }
-    ensures { result ≡ nowOf fixed (alikeIn turned.now (take count table.now)) }
+    ensures { result ≡ now_of fixed (alike_in turned.now (take count table.now)) }
 {
     if is_early(fixed) {
         return fixed;

@@ -22,8 +22,8 @@ unfoldable pub larger : ℕ → ℕ
 larger e = e % 65536
 
 -- the edges of a ring, and the ways it goes along them
-unfoldable pub edgesOf : List ℕ → List ℕ
-edgesOf ring = map (λ s. edge s.0 s.1) (steps ring)
+unfoldable pub edges_of : List ℕ → List ℕ
+edges_of ring = map (λ s. edge s.0 s.1) (steps ring)
 
 unfoldable pub ways_of : List ℕ → List ℕ
 ways_of ring = map (λ s. way s.0 s.1) (steps ring)
@@ -33,23 +33,23 @@ unfoldable pub count : ℕ → List ℕ → ℕ
 count n l = tally (eqb n) l
 
 -- the least edge of the rings of which a test of the number of its uses holds
-unfoldable pub leastUsed : (ℕ → Bool) → List (List ℕ) → Option ℕ
-leastUsed t rings = let es = all edgesOf rings in least (keep (λ e. t (count e es)) es)
+unfoldable pub least_used : (ℕ → Bool) → List (List ℕ) → Option ℕ
+least_used t rings = let es = all edges_of rings in least (keep (λ e. t (count e es)) es)
 
 -- 08: "an edge is used once"
-unfoldable pub usedOnce : List (List ℕ) → Option ℕ
-usedOnce rings = leastUsed (λ n. eqb n 1) rings
+unfoldable pub used_once : List (List ℕ) → Option ℕ
+used_once rings = least_used (λ n. eqb n 1) rings
 
 -- 09: "an edge is used more than twice"
-unfoldable pub usedOften : List (List ℕ) → Option ℕ
-usedOften rings = leastUsed (λ n. ltb 2 n) rings
+unfoldable pub used_often : List (List ℕ) → Option ℕ
+used_often rings = least_used (λ n. ltb 2 n) rings
 
 -- 0A: "an edge is used twice in the same direction"
-unfoldable pub usedAlike : List (List ℕ) → Option ℕ
-usedAlike rings =
+unfoldable pub used_alike : List (List ℕ) → Option ℕ
+used_alike rings =
     let ws = all ways_of rings in
-    least (keep (λ e. leb 2 (count e ws) || leb 2 (count (way (larger e) (smaller e)) ws)) (all edgesOf rings))
+    least (keep (λ e. leb 2 (count e ws) || leb 2 (count (way (larger e) (smaller e)) ws)) (all edges_of rings))
 
-unfoldable pub edges-compute : Unit {0}
-unfolding way edge smaller larger edgesOf ways_of count leastUsed usedOnce usedOften usedAlike
-edges-compute = tt
+unfoldable pub edges_compute : Unit {0}
+unfolding way edge smaller larger edges_of ways_of count least_used used_once used_often used_alike
+edges_compute = tt

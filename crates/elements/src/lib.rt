@@ -1,14 +1,14 @@
 // The elements a and b of the check that a verdict names.
 ghost use Rattle.std.specs.Prelude.{◌≡◌};
-ghost use Rattle.shell.specs.Shell.{shapeA, shapeB};
-ghost use Rattle.building.specs.Report.{elementA, elementB};
+ghost use Rattle.shell.specs.Shell.{shape_a_of, shape_b_of};
+ghost use Rattle.building.specs.Report.{element_a_of, element_b_of};
 
 use building::Verdict;
 use shell::Shape;
 
 // Element a of the check that a shape names.
 fn shape_a(s: Shape) -> usize
-    ensures { result ≡ shapeA s }
+    ensures { result ≡ shape_a_of s }
 {
     match s {
         Shape::Whole => 0,
@@ -23,7 +23,7 @@ fn shape_a(s: Shape) -> usize
 
 // Its element b.
 fn shape_b(s: Shape) -> usize
-    ensures { result ≡ shapeB s }
+    ensures { result ≡ shape_b_of s }
 {
     match s {
         Shape::Whole => 0,
@@ -38,7 +38,7 @@ fn shape_b(s: Shape) -> usize
 
 // Element a of the check that a verdict names.
 pub fn element_a(v: Verdict) -> usize
-    ensures { result ≡ elementA v }
+    ensures { result ≡ element_a_of v }
 {
     match v {
         Verdict::Accepted => 0,
@@ -50,7 +50,7 @@ pub fn element_a(v: Verdict) -> usize
 
 // Its element b: of a polygon's finding, its position.
 pub fn element_b(v: Verdict) -> usize
-    ensures { result ≡ elementB v }
+    ensures { result ≡ element_b_of v }
 {
     match v {
         Verdict::Accepted => 0,

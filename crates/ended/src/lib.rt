@@ -35,7 +35,7 @@ pub fn end_load(
     d: Desk,
 ) -> Desk
     requires { (d.at + 33 ≤ length room.old) × (Valid (arrays points.now entries.now starts.now firsts.now stamps.old findings.old parts.old table.old turned.old) d) }
-    ensures { Did (does (service (arrays points.now entries.now starts.now firsts.now stamps.old findings.old parts.old table.old turned.old) d) F.end-of-load) room.old d.at (arrays points.now entries.now starts.now firsts.now stamps.new findings.new parts.new table.new turned.new) room.new result }
+    ensures { Did (does (service (arrays points.now entries.now starts.now firsts.now stamps.old findings.old parts.old table.old turned.old) d) F.end_of_load) room.old d.at (arrays points.now entries.now starts.now firsts.now stamps.new findings.new parts.new table.new turned.new) room.new result }
 {
     let refusal = of_end(d);
     if desk::is_accepted(refusal) {

@@ -20,13 +20,13 @@ module _ {n : Point} {a b c m l : ℕ} (h : Near 10160000000000 n)
     (p : a ≡ nat_abs (to_z w64 (of_z w64 n.x))) (q : b ≡ nat_abs (to_z w64 (of_z w64 n.y))) (r : c ≡ nat_abs (to_z w64 (of_z w64 n.z)))
     (inner : m ≡ max b c) (outer : l ≡ max a m) where
   -- the larger of the first and of the larger of the others
-  pub largest-is : l ≡ largest n
+  pub largest_is : l ≡ largest n
   unfolding largest
-  largest-is = outer ∙ ap₂ max (size_is h.x p) (inner ∙ ap₂ max (size_is h.y q) (size_is h.z r))
+  largest_is = outer ∙ ap₂ max (size_is h.x p) (inner ∙ ap₂ max (size_is h.y q) (size_is h.z r))
 
-  pub largest-small : {t : ℕ} → t ≤ 1000 → t * l ≤ 10160000000000000
+  pub largest_small : {t : ℕ} → t ≤ 1000 → t * l ≤ 10160000000000000
   unfolding largest
-  largest-small few = mul-le-mul few (le_trans (le_of_eq largest-is) (bound (nat_abs n.x) (nat_abs n.y) (nat_abs n.z) h.x.small h.y.small h.z.small))
+  largest_small few = mul-le-mul few (le_trans (le_of_eq largest_is) (bound (nat_abs n.x) (nat_abs n.y) (nat_abs n.z) h.x.small h.y.small h.z.small))
     where
       bound : (a b c : ℕ) → a ≤ 10160000000000 → b ≤ 10160000000000 → c ≤ 10160000000000 → max a (max b c) ≤ 10160000000000
       bound a b c h l g = omega arith

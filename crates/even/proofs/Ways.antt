@@ -10,42 +10,42 @@ use borrow.Author.Tests.{ltb-false}
 use lib.Dec.{ltb}
 use lib.ListN.{length, get_or, drop, length-map}
 use lib.IntN.{ℤ, pos, ◌*ℤ◌}
-use Rattle.whole.specs.Lists.{leastIndex}
-use Rattle.whole.specs.laws.Index.{index-here, index-next, index-end}
+use Rattle.whole.specs.Lists.{least_index}
+use Rattle.whole.specs.laws.Index.{index_here, index_next, index_end}
 use Rattle.whole.specs.laws.Places.{map_at}
-use Rattle.space.specs.Space.{Point, origin, relativeTo, dot, places}
-use Rattle.ring.specs.Entries.{isUnclosed}
+use Rattle.space.specs.Space.{Point, origin, relative_to, dot, places}
+use Rattle.ring.specs.Entries.{is_unclosed}
 use Rattle.normal.specs.Normal.{relative, normal}
-use Rattle.even.specs.Even.{square, squares, exceeds, isUneven, unevenAt}
-use Rattle.even.specs.laws.Quad.{quad-uneven}
-use Rattle.space.specs.held.Points.{points_of, placeAt, Coords, Known}
+use Rattle.even.specs.Even.{square, squares, exceeds, is_uneven, uneven_at}
+use Rattle.even.specs.laws.Quad.{quad_uneven}
+use Rattle.space.specs.held.Points.{points_of, place_at, Coords, Known}
 use Rattle.even.specs.held.Offs.{largest, Listed, off_at, Within}
 use Rattle.space.specs.laws.Sizes.{point_at}
 use Rattle.even.specs.laws.Distance.{decides, settled, far}
-use Rattle.even.specs.laws.Least.{relative-length, relative-at, uneven-is, uneven-least}
+use Rattle.even.specs.laws.Least.{relative-length, relative-at, uneven_is, uneven-least}
 
 -- ---- the places of a ring, relative to its first
 pub ways : List Point → List ℕ → List Point
 ways points ring = relative (places points ring)
 
-ways-length : (points : List Point) (ring : List ℕ) → length (ways points ring) ≡ length ring
+ways_length : (points : List Point) (ring : List ℕ) → length (ways points ring) ≡ length ring
 unfolding ways places
-ways-length points ring = relative-length (places points ring) ∙ length-map ring (λ n. get_or points n origin)
+ways_length points ring = relative-length (places points ring) ∙ length-map ring (λ n. get_or points n origin)
 
-ways-at : (points : List Point) (ring : List ℕ) (i : ℕ) → i < length ring → get_or (ways points ring) i origin ≡ relativeTo (get_or points (get_or ring 0 0) origin) (get_or points (get_or ring i 0) origin)
+ways_at : (points : List Point) (ring : List ℕ) (i : ℕ) → i < length ring → get_or (ways points ring) i origin ≡ relative_to (get_or points (get_or ring 0 0) origin) (get_or points (get_or ring i 0) origin)
 unfolding ways places
-ways-at points ring i h =
+ways_at points ring i h =
     relative-at (places points ring) i (omega (arith, length-map ring (λ n. get_or points n origin)))
-    ∙ ap₂ relativeTo (map_at (λ n. get_or points n origin) ring 0 0 origin (omega arith)) (map_at (λ n. get_or points n origin) ring i 0 origin h)
+    ∙ ap₂ relative_to (map_at (λ n. get_or points n origin) ring 0 0 origin (omega arith)) (map_at (λ n. get_or points n origin) ring i 0 origin h)
 
 -- none of the first i entries is too far off
 pub record Even (tolerance : ℕ) (n : Point) (flat : List ℤ) (ring : List ℕ) (i : ℕ) : Type 0 where
   pub upto : i ≤ length ring
-  pub rest : i + leastIndex (far tolerance n) (drop i (ways (points_of flat) ring)) ≡ unevenAt tolerance n (places (points_of flat) ring)
+  pub rest : i + least_index (far tolerance n) (drop i (ways (points_of flat) ring)) ≡ uneven_at tolerance n (places (points_of flat) ring)
 
-pub even-start : (tolerance : ℕ) (n : Point) (flat : List ℤ) (ring : List ℕ) → Even tolerance n flat ring 0
-unfolding unevenAt ways
-even-start tolerance n flat ring = record { upto = omega arith; rest = zero-add (unevenAt tolerance n (places (points_of flat) ring)) }
+pub even_start : (tolerance : ℕ) (n : Point) (flat : List ℤ) (ring : List ℕ) → Even tolerance n flat ring 0
+unfolding uneven_at ways
+even_start tolerance n flat ring = record { upto = omega arith; rest = zero-add (uneven_at tolerance n (places (points_of flat) ring)) }
 
 -- what is left begins with the entry that is looked for, or with one before it
 stands : (i : ℕ) {x : ℕ} → x ≡ 0 → i ≡ i + x
@@ -56,19 +56,19 @@ onward i e = omega arith
 
 module _ {flat : List ℤ} {ring : List ℕ} (h : Coords flat) (k : Listed ring) (i : ℕ) (l : i < length ring) where
   inside : i < length (ways (points_of flat) ring)
-  inside = omega (arith, ways-length (points_of flat) ring)
+  inside = omega (arith, ways_length (points_of flat) ring)
 
-  way : relativeTo (placeAt flat (get_or ring 0 0)) (placeAt flat (get_or ring i 0)) ≡ get_or (ways (points_of flat) ring) i origin
-  way = (λ j. relativeTo (sym (point_at h (get_or ring 0 0) (k.each 0 (omega arith))) j) (sym (point_at h (get_or ring i 0) (k.each i l)) j)) ∙ sym (ways-at (points_of flat) ring i l)
+  way : relative_to (place_at flat (get_or ring 0 0)) (place_at flat (get_or ring i 0)) ≡ get_or (ways (points_of flat) ring) i origin
+  way = (λ j. relative_to (sym (point_at h (get_or ring 0 0) (k.each 0 (omega arith))) j) (sym (point_at h (get_or ring i 0) (k.each i l)) j)) ∙ sym (ways_at (points_of flat) ring i l)
 
 module _ (tolerance : ℕ) (n : Point) {flat : List ℤ} {ring : List ℕ} (h : Coords flat) (k : Listed ring) where
-  pub even-end : {i : ℕ} → Even tolerance n flat ring i → i ≡ length ring → i ≡ unevenAt tolerance n (places (points_of flat) ring)
-  even-end {i} e z = stands i (index-end (far tolerance n) (ways (points_of flat) ring) i (z ∙ sym (ways-length (points_of flat) ring))) ∙ e.rest
+  pub even_end : {i : ℕ} → Even tolerance n flat ring i → i ≡ length ring → i ≡ uneven_at tolerance n (places (points_of flat) ring)
+  even_end {i} e z = stands i (index_end (far tolerance n) (ways (points_of flat) ring) i (z ∙ sym (ways_length (points_of flat) ring))) ∙ e.rest
 
   module _ (i : ℕ) (l : i < length ring) (e : Even tolerance n flat ring i) where
     -- one entry on
     past : far tolerance n (get_or (ways (points_of flat) ring) i origin) ≡ false → Even tolerance n flat ring (i + 1)
-    past t = record { upto = omega arith; rest = onward i (index-next (far tolerance n) (ways (points_of flat) ring) i origin (inside h k i l) t) ∙ e.rest }
+    past t = record { upto = omega arith; rest = onward i (index_next (far tolerance n) (ways (points_of flat) ring) i origin (inside h k i l) t) ∙ e.rest }
 
     -- within the reach
     even-near : off_at flat n ring i ≤ tolerance * largest n → Even tolerance n flat ring (i + 1)
@@ -79,15 +79,15 @@ module _ (tolerance : ℕ) (n : Point) {flat : List ℤ} {ring : List ℕ} (h : 
       tells : r ≡ far tolerance n (get_or (ways (points_of flat) ring) i origin)
       tells = q ∙ decides tolerance n f _ ∙ ap (far tolerance n) (way h k i l)
 
-      pub even-found : r ≡ true → i ≡ unevenAt tolerance n (places (points_of flat) ring)
-      even-found t = stands i (index-here (far tolerance n) (ways (points_of flat) ring) i origin (inside h k i l) (sym tells ∙ t)) ∙ e.rest
+      pub even-found : r ≡ true → i ≡ uneven_at tolerance n (places (points_of flat) ring)
+      even-found t = stands i (index_here (far tolerance n) (ways (points_of flat) ring) i origin (inside h k i l) (sym tells ∙ t)) ∙ e.rest
 
       pub even-next : r ≡ false → Even tolerance n flat ring (i + 1)
       even-next t = past (sym tells ∙ t)
 
   -- past entries within the reach
-  pub even-skip : {reach i j : ℕ} → Even tolerance n flat ring i → reach ≡ tolerance * largest n → Within flat n ring reach i j → Even tolerance n flat ring j
-  even-skip {reach} {i} {j} e f w = subst (λ (m : ℕ). Even tolerance n flat ring m) (up w.start) (go (j - i) (omega (arith, w.start)))
+  pub even_skip : {reach i j : ℕ} → Even tolerance n flat ring i → reach ≡ tolerance * largest n → Within flat n ring reach i j → Even tolerance n flat ring j
+  even_skip {reach} {i} {j} e f w = subst (λ (m : ℕ). Even tolerance n flat ring m) (up w.start) (go (j - i) (omega (arith, w.start)))
     where
       up : i ≤ j → i + (j - i) ≡ j
       up h = omega arith
@@ -117,24 +117,24 @@ within_more {flat} {n} {ring} {reach} {i} {j} w l q = record { start = omega (ar
     go k p r (no f) = subst (λ (m : ℕ). off_at flat n ring m ≤ reach) (last k r f) q
 
 -- of four corners, the second tells of all
-bent-is : (tolerance : ℕ) {n : Point} {flat : List ℤ} {ring : List ℕ} → Coords flat → Known ring → length ring ≡ 5 → isUnclosed ring ≡ false → n ≡ normal (places (points_of flat) ring)
-    → exceeds tolerance n (dot n (relativeTo (placeAt flat (get_or ring 0 0)) (placeAt flat (get_or ring 1 0)))) ≡ isUneven tolerance n (places (points_of flat) ring)
-bent-is tolerance {n} {flat} {ring} h k five closed e =
-    let way : relativeTo (placeAt flat (get_or ring 0 0)) (placeAt flat (get_or ring 1 0)) ≡ relativeTo (get_or (points_of flat) (get_or ring 0 0) origin) (get_or (points_of flat) (get_or ring 1 0) origin) =
-    λ j. relativeTo (sym (point_at h (get_or ring 0 0) (k.each 0 (omega arith))) j) (sym (point_at h (get_or ring 1 0) (k.each 1 (omega arith))) j)
+bent_is : (tolerance : ℕ) {n : Point} {flat : List ℤ} {ring : List ℕ} → Coords flat → Known ring → length ring ≡ 5 → is_unclosed ring ≡ false → n ≡ normal (places (points_of flat) ring)
+    → exceeds tolerance n (dot n (relative_to (place_at flat (get_or ring 0 0)) (place_at flat (get_or ring 1 0)))) ≡ is_uneven tolerance n (places (points_of flat) ring)
+bent_is tolerance {n} {flat} {ring} h k five closed e =
+    let way : relative_to (place_at flat (get_or ring 0 0)) (place_at flat (get_or ring 1 0)) ≡ relative_to (get_or (points_of flat) (get_or ring 0 0) origin) (get_or (points_of flat) (get_or ring 1 0) origin) =
+    λ j. relative_to (sym (point_at h (get_or ring 0 0) (k.each 0 (omega arith))) j) (sym (point_at h (get_or ring 1 0) (k.each 1 (omega arith))) j)
     in
     ap (far tolerance n) way
-    ∙ ap (λ (m : Point). far tolerance m (relativeTo (get_or (points_of flat) (get_or ring 0 0) origin) (get_or (points_of flat) (get_or ring 1 0) origin))) e
-    ∙ sym (quad-uneven (points_of flat) ring five closed tolerance)
-    ∙ ap (λ (m : Point). isUneven tolerance m (places (points_of flat) ring)) (sym e)
+    ∙ ap (λ (m : Point). far tolerance m (relative_to (get_or (points_of flat) (get_or ring 0 0) origin) (get_or (points_of flat) (get_or ring 1 0) origin))) e
+    ∙ sym (quad_uneven (points_of flat) ring five closed tolerance)
+    ∙ ap (λ (m : Point). is_uneven tolerance m (places (points_of flat) ring)) (sym e)
 
 -- where it is not too far off, no entry is told
-pub bent-none : (tolerance : ℕ) {n : Point} {flat : List ℤ} {ring : List ℕ} → Coords flat → Known ring → length ring ≡ 5 → isUnclosed ring ≡ false → n ≡ normal (places (points_of flat) ring)
-    → exceeds tolerance n (dot n (relativeTo (placeAt flat (get_or ring 0 0)) (placeAt flat (get_or ring 1 0)))) ≡ false → 5 ≡ unevenAt tolerance n (places (points_of flat) ring)
+pub bent_none : (tolerance : ℕ) {n : Point} {flat : List ℤ} {ring : List ℕ} → Coords flat → Known ring → length ring ≡ 5 → is_unclosed ring ≡ false → n ≡ normal (places (points_of flat) ring)
+    → exceeds tolerance n (dot n (relative_to (place_at flat (get_or ring 0 0)) (place_at flat (get_or ring 1 0)))) ≡ false → 5 ≡ uneven_at tolerance n (places (points_of flat) ring)
 unfolding places
-bent-none tolerance {n} {flat} {ring} h k five closed e t =
+bent_none tolerance {n} {flat} {ring} h k five closed e t =
     let ps = places (points_of flat) ring in
     let m : length ps ≡ 5 = length-map ring (λ p. get_or (points_of flat) p origin) ∙ five in
     let w = (uneven-least tolerance n ps).within in
-    let f = ltb-false (unevenAt tolerance n ps) (length ps) (sym (uneven-is tolerance n ps) ∙ sym (bent-is tolerance h k five closed e) ∙ t) in
+    let f = ltb-false (uneven_at tolerance n ps) (length ps) (sym (uneven_is tolerance n ps) ∙ sym (bent_is tolerance h k five closed e) ∙ t) in
     omega arith

@@ -1,10 +1,10 @@
 // Check 06: how far a ring's points are off its plane, told exactly in two machine words. Most points are settled by one.
 ghost use Rattle.std.specs.Prelude.{◌≡◌, ◌<◌, ◌≤◌, ◌*◌, max, length, pos, nat_abs, ◌*ℤ◌, false, leb, ltb};
-ghost use Rattle.space.specs.Space.{places, relativeTo, dot};
-ghost use Rattle.space.specs.held.Points.{points_of, Coords, Known, placeAt, asPoint, Near};
-ghost use Rattle.ring.specs.Entries.{isUnclosed};
+ghost use Rattle.space.specs.Space.{places, relative_to, dot};
+ghost use Rattle.space.specs.held.Points.{points_of, Coords, Known, place_at, as_point, Near};
+ghost use Rattle.ring.specs.Entries.{is_unclosed};
 ghost use Rattle.normal.specs.Normal.{normal};
-ghost use Rattle.even.specs.Even.{unevenAt, square, squares};
+ghost use Rattle.even.specs.Even.{uneven_at, square, squares};
 ghost use Rattle.even.specs.held.Offs.{largest, Listed, Next};
 ghost use Rattle.wide.specs.Value.{value};
 
@@ -21,8 +21,8 @@ fn larger(a: u64, b: u64) -> u64
 // The tolerance times the largest of N's components: where the size of N·(p - first) is no more, p is within the tolerance.
 fn reach_of(tolerance: u16, n: Place) -> u64
     requires tolerance_bound { tolerance ≤ 1000 }
-    requires near { Near 10160000000000 (asPoint n) }
-    ensures { result ≡ tolerance * largest (asPoint n) }
+    requires near { Near 10160000000000 (as_point n) }
+    ensures { result ≡ tolerance * largest (as_point n) }
 {
     let x = n.x;
     let y = n.y;
@@ -36,8 +36,8 @@ fn reach_of(tolerance: u16, n: Place) -> u64
 // "tolerance squared times the sum of the squares of N's components": each component times the tolerance, squared.
 fn limit_of(tolerance: u16, n: Place) -> Wide
     requires tolerance_bound { tolerance ≤ 1000 }
-    requires near { Near 10160000000000 (asPoint n) }
-    ensures { pos (value result) ≡ square (pos tolerance) *ℤ squares (asPoint n) }
+    requires near { Near 10160000000000 (as_point n) }
+    ensures { pos (value result) ≡ square (pos tolerance) *ℤ squares (as_point n) }
 {
     let x = n.x;
     let y = n.y;
@@ -53,8 +53,8 @@ fn limit_of(tolerance: u16, n: Place) -> Wide
 fn off(points: &[i32; 1536], n: Place, first: u16, p: u16) -> u64
     requires coords { Coords points.now }
     requires first_bound { (first < 512) × (p < 512) }
-    requires near { Near 10160000000000 (asPoint n) }
-    ensures { result ≡ nat_abs (dot (asPoint n) (relativeTo (placeAt points.now first) (placeAt points.now p))) }
+    requires near { Near 10160000000000 (as_point n) }
+    ensures { result ≡ nat_abs (dot (as_point n) (relative_to (place_at points.now first) (place_at points.now p))) }
 {
     wide::size(space::dot(n, space::toward(points, first, p)))
 }
@@ -70,8 +70,8 @@ fn is_beyond(size: u64, limit: Wide) -> bool
 fn is_near(points: &[i32; 1536], n: Place, tolerance: u16, first: u16, p: u16) -> bool
     requires coords { Coords points.now }
     requires first_bound { (first < 512) × (p < 512) × (tolerance ≤ 1000) }
-    requires near { Near 10160000000000 (asPoint n) }
-    ensures { result ≡ leb (nat_abs (dot (asPoint n) (relativeTo (placeAt points.now first) (placeAt points.now p)))) (tolerance * largest (asPoint n)) }
+    requires near { Near 10160000000000 (as_point n) }
+    ensures { result ≡ leb (nat_abs (dot (as_point n) (relative_to (place_at points.now first) (place_at points.now p)))) (tolerance * largest (as_point n)) }
 {
     off(points, n, first, p) <= reach_of(tolerance, n)
 }
@@ -81,8 +81,8 @@ fn next_off(points: &[i32; 1536], ring: &[u16], n: Place, i: usize, reach: u64) 
     requires coords { Coords points.now }
     requires listed { Listed ring.now }
     requires in_bounds { (1 ≤ length ring.now) × (i ≤ length ring.now) }
-    requires near { Near 10160000000000 (asPoint n) }
-    ensures { Next points.now (asPoint n) ring.now reach i result }
+    requires near { Near 10160000000000 (as_point n) }
+    ensures { Next points.now (as_point n) ring.now reach i result }
 {
     let first = ring[0];
     let mut j = i;
@@ -101,8 +101,8 @@ pub fn first_uneven(points: &[i32; 1536], ring: &[u16], tolerance: u16, n: Place
     requires coords { Coords points.now }
     requires listed { Listed ring.now }
     requires in_bounds { (1 ≤ length ring.now) × (tolerance ≤ 1000) }
-    requires near { Near 10160000000000 (asPoint n) }
-    ensures { result ≡ unevenAt tolerance (asPoint n) (places (points_of points.now) ring.now) }
+    requires near { Near 10160000000000 (as_point n) }
+    ensures { result ≡ uneven_at tolerance (as_point n) (places (points_of points.now) ring.now) }
 {
     let reach = reach_of(tolerance, n);
     let mut i = next_off(points, ring, n, 0, reach);
@@ -125,9 +125,9 @@ pub fn first_uneven(points: &[i32; 1536], ring: &[u16], tolerance: u16, n: Place
 pub fn first_uneven_closed(points: &[i32; 1536], ring: &[u16], tolerance: u16, n: Place) -> usize
     requires coords { Coords points.now }
     requires known { Known ring.now }
-    requires in_bounds { (1 ≤ length ring.now) × (isUnclosed ring.now ≡ false) × (tolerance ≤ 1000) }
-    requires n_value { asPoint n ≡ normal (places (points_of points.now) ring.now) }
-    ensures { result ≡ unevenAt tolerance (asPoint n) (places (points_of points.now) ring.now) }
+    requires in_bounds { (1 ≤ length ring.now) × (is_unclosed ring.now ≡ false) × (tolerance ≤ 1000) }
+    requires n_value { as_point n ≡ normal (places (points_of points.now) ring.now) }
+    ensures { result ≡ uneven_at tolerance (as_point n) (places (points_of points.now) ring.now) }
 {
     if ring.len() == 5 {
         let first = ring[0];

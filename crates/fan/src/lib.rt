@@ -1,8 +1,8 @@
 // Places that fan out from the first of a ring: one pass tells that no two edges cross and that no number stands twice.
 ghost use Rattle.std.specs.Prelude.{◌≡◌, ◌-◌, ◌<◌, ◌≤◌, length, get_or};
-ghost use Rattle.plane.specs.Plane.{side, dropAxis};
-ghost use Rattle.space.specs.held.Points.{Coords, Known, placeAt};
-ghost use Rattle.fan.specs.held.Fan.{spotIn, isFan};
+ghost use Rattle.plane.specs.Plane.{side, drop_axis};
+ghost use Rattle.space.specs.held.Points.{Coords, Known, place_at};
+ghost use Rattle.fan.specs.held.Fan.{spot_in, is_fan_of};
 
 use space::Axis;
 
@@ -10,7 +10,7 @@ use space::Axis;
 fn side_of(points: &[i32; 1536], a: u16, p: u16, q: u16, j: usize, k: usize) -> i64
     requires coords { Coords points.now }
     requires a_bound { (a < 512) × (p < 512) × (q < 512) × (j ≤ 2) × (k ≤ 2) }
-    ensures { result ≡ side (spotIn points.now j k a) (spotIn points.now j k p) (spotIn points.now j k q) }
+    ensures { result ≡ side (spot_in points.now j k a) (spot_in points.now j k p) (spot_in points.now j k q) }
 {
     let au = space::coordinate(points, a, j);
     let av = space::coordinate(points, a, k);
@@ -26,7 +26,7 @@ fn fans_in(points: &[i32; 1536], ring: &[u16], j: usize, k: usize) -> bool
     requires coords { Coords points.now }
     requires known { Known ring.now }
     requires in_bounds { (4 ≤ length ring.now) × (j ≤ 2) × (k ≤ 2) }
-    ensures { result ≡ isFan (λ i. spotIn points.now j k (get_or ring.now i 0)) (length ring.now - 3) }
+    ensures { result ≡ is_fan_of (λ i. spot_in points.now j k (get_or ring.now i 0)) (length ring.now - 3) }
 {
     let n = ring.len() - 3;
     let first = ring[0];
@@ -54,7 +54,7 @@ pub fn is_fan(points: &[i32; 1536], ring: &[u16], axis: Axis) -> bool
     requires coords { Coords points.now }
     requires known { Known ring.now }
     requires in_bounds { 4 ≤ length ring.now }
-    ensures { result ≡ isFan (λ i. dropAxis axis (placeAt points.now (get_or ring.now i 0))) (length ring.now - 3) }
+    ensures { result ≡ is_fan_of (λ i. drop_axis axis (place_at points.now (get_or ring.now i 0))) (length ring.now - 3) }
 {
     match axis {
         Axis::X => fans_in(points, ring, 1, 2),

@@ -1,13 +1,13 @@
 // The unsigned fields of a line of digits: four or eight digits at a time.
 
 ghost use Rattle.std.specs.Prelude.{◌<◌, ◌^◌, ◌≡◌, true, [], ◌∷◌, take, drop};
-ghost use Rattle.hex.specs.Hex.{isHex, digitValue, number};
+ghost use Rattle.hex.specs.Hex.{is_hex_of, digit_value_of, number};
 ghost use Rattle.fields.specs.held.Fields.{HexField, Hex4};
 
 // The number of a digit; without branches, since the next digit cannot be foreseen.
 fn digit_value(b: u8) -> u64
-    requires { isHex b ≡ true }
-    ensures { (result ≡ digitValue b) × (result < 16) }
+    requires { is_hex_of b ≡ true }
+    ensures { (result ≡ digit_value_of b) × (result < 16) }
 {
     (b % 16 + 9 * (b / 64)) as u64
 }

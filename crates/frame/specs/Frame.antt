@@ -1,13 +1,13 @@
 -- The frame table: every line is one frame, or broken (refusal 01).
 use Rattle.std.specs.Prelude.{ℕ, ◌-◌, ◌%◌, Bool, true, false, cond, ◌&&◌, List, [], ◌∷◌, leb, eqb, length, take, drop, ℤ}
-use Rattle.hex.specs.Hex.{allHex, number, signed32}
+use Rattle.hex.specs.Hex.{all_hex_of, number, signed32}
 
 -- a frame, with its fields; a place is three coordinates
 pub data Frame : Type 0 where
   begin : ℕ → Frame
   point : ℤ → ℤ → ℤ → Frame
   polygon : List ℕ → Frame
-  end-of-load : Frame
+  end_of_load : Frame
   move : ℕ → ℕ → ℤ → ℤ → ℤ → Frame
   turn : ℕ → ℕ → Frame
   question : ℕ → Frame
@@ -20,7 +20,7 @@ pub data Kind : Type 0 where
   begin : Kind
   point : Kind
   polygon : Kind
-  end-of-load : Kind
+  end_of_load : Kind
   move : Kind
   turn : Kind
   question : Kind
@@ -34,7 +34,7 @@ kind_of n =
     cond (eqb n 1) Kind.begin
     (cond (eqb n 2) Kind.point
     (cond (eqb n 3) Kind.polygon
-    (cond (eqb n 4) Kind.end-of-load
+    (cond (eqb n 4) Kind.end_of_load
     (cond (eqb n 5) Kind.move
     (cond (eqb n 6) Kind.turn
     (cond (eqb n 7) Kind.question
@@ -43,19 +43,19 @@ kind_of n =
     Kind.unknown))))))))
 
 -- the length of a line with a ring: two digits, and four for each of 0 to 128 point numbers
-abbrev pub fitsRing : ℕ → Bool
-fitsRing n = leb n 514 && eqb (n % 4) 2
+abbrev pub fits_ring_of : ℕ → Bool
+fits_ring_of n = leb n 514 && eqb (n % 4) 2
 
 -- the column Length: whether a line of n digits is a frame of the kind; document 02 (iv): "Frame 08 .. with fields as in 03"
 unfoldable pub fits : Kind → ℕ → Bool
 fits Kind.begin n = eqb n 6
 fits Kind.point n = eqb n 26
-fits Kind.polygon n = fitsRing n
-fits Kind.end-of-load n = eqb n 2
+fits Kind.polygon n = fits_ring_of n
+fits Kind.end_of_load n = eqb n 2
 fits Kind.move n = eqb n 38
 fits Kind.turn n = eqb n 14
 fits Kind.question n = eqb n 6
-fits Kind.inner n = fitsRing n
+fits Kind.inner n = fits_ring_of n
 fits Kind.across n = eqb n 10
 fits Kind.unknown n = false
 
@@ -80,7 +80,7 @@ unfoldable pub filled : Kind → List ℕ → Frame
 filled Kind.begin l = unsigned 4 (λ tolerance _. Frame.begin tolerance) l
 filled Kind.point l = coordinate (λ x. coordinate (λ y. coordinate (λ z _. Frame.point x y z))) l
 filled Kind.polygon l = Frame.polygon (numbers l)
-filled Kind.end-of-load l = Frame.end-of-load
+filled Kind.end_of_load l = Frame.end_of_load
 filled Kind.move l = unsigned 8 (λ n. unsigned 4 (λ p. coordinate (λ x. coordinate (λ y. coordinate (λ z _. Frame.move n p x y z))))) l
 filled Kind.turn l = unsigned 8 (λ n. unsigned 4 (λ p _. Frame.turn n p)) l
 filled Kind.question l = unsigned 4 (λ p _. Frame.question p) l
@@ -89,13 +89,13 @@ filled Kind.across l = unsigned 4 (λ a. unsigned 4 (λ b _. Frame.across a b)) 
 filled Kind.unknown l = broken
 
 -- the kind that a line names by its first two digits
-unfoldable pub kindNamed : List ℕ → Kind
-kindNamed l = kind_of (number (take 2 l))
+unfoldable pub kind_named : List ℕ → Kind
+kind_named l = kind_of (number (take 2 l))
 
 -- the frame of a line: broken for "a character, kind or length that the frame table doesn't have"
 unfoldable pub decode : List ℕ → Frame
-decode l = elim (allHex l && fits (kindNamed l) (length l)) [ true ↦ filled (kindNamed l) (drop 2 l) | false ↦ broken ]
+decode l = elim (all_hex_of l && fits (kind_named l) (length l)) [ true ↦ filled (kind_named l) (drop 2 l) | false ↦ broken ]
 
-unfoldable pub frame-computes : Unit {0}
-unfolding kind_of fits unsigned coordinate numbers filled kindNamed decode
-frame-computes = tt
+unfoldable pub frame_computes : Unit {0}
+unfolding kind_of fits unsigned coordinate numbers filled kind_named decode
+frame_computes = tt

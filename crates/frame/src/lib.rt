@@ -1,9 +1,9 @@
 // Frames in: the frame of a line.
 
 ghost use Rattle.std.specs.Prelude.{◌+◌, ◌<◌, ◌^◌, ◌≡◌, true, length, take, drop, get_or};
-ghost use Rattle.hex.specs.Hex.{allHex, number, signed32};
+ghost use Rattle.hex.specs.Hex.{all_hex_of, number, signed32};
 ghost use Rattle.fields.specs.held.Fields.{HexField};
-ghost use Rattle.frame.specs.Frame.{Kind, fitsRing, numbers, decode};
+ghost use Rattle.frame.specs.Frame.{Kind, fits_ring_of, numbers, decode};
 ghost use Rattle.frame.specs.held.Meaning.{meaning, Listed, shaped};
 
 // The frame of a line, by value; a ring's point numbers stay in its line, where `entry` reads them.
@@ -47,7 +47,7 @@ pub fn decode(line: &[u8]) -> Fields
 }
 
 fn read_begin(line: &[u8]) -> Fields
-    requires { allHex line.now ≡ true }
+    requires { all_hex_of line.now ≡ true }
     ensures { meaning result line.now ≡ shaped Kind.begin line.now }
 {
     if line.len() == 6 {
@@ -57,7 +57,7 @@ fn read_begin(line: &[u8]) -> Fields
 }
 
 fn read_point(line: &[u8]) -> Fields
-    requires { allHex line.now ≡ true }
+    requires { all_hex_of line.now ≡ true }
     ensures { meaning result line.now ≡ shaped Kind.point line.now }
 {
     if line.len() == 26 {
@@ -80,7 +80,7 @@ fn read_polygon(line: &[u8]) -> Fields
 }
 
 fn read_end_of_load(line: &[u8]) -> Fields
-    ensures { meaning result line.now ≡ shaped Kind.end-of-load line.now }
+    ensures { meaning result line.now ≡ shaped Kind.end_of_load line.now }
 {
     if line.len() == 2 {
         return Fields::EndOfLoad;
@@ -89,7 +89,7 @@ fn read_end_of_load(line: &[u8]) -> Fields
 }
 
 fn read_move(line: &[u8]) -> Fields
-    requires { allHex line.now ≡ true }
+    requires { all_hex_of line.now ≡ true }
     ensures { meaning result line.now ≡ shaped Kind.move line.now }
 {
     if line.len() == 38 {
@@ -105,7 +105,7 @@ fn read_move(line: &[u8]) -> Fields
 }
 
 fn read_turn(line: &[u8]) -> Fields
-    requires { allHex line.now ≡ true }
+    requires { all_hex_of line.now ≡ true }
     ensures { meaning result line.now ≡ shaped Kind.turn line.now }
 {
     if line.len() == 14 {
@@ -118,7 +118,7 @@ fn read_turn(line: &[u8]) -> Fields
 }
 
 fn read_question(line: &[u8]) -> Fields
-    requires { allHex line.now ≡ true }
+    requires { all_hex_of line.now ≡ true }
     ensures { meaning result line.now ≡ shaped Kind.question line.now }
 {
     if line.len() == 6 {
@@ -137,7 +137,7 @@ fn read_inner(line: &[u8]) -> Fields
 }
 
 fn read_across(line: &[u8]) -> Fields
-    requires { allHex line.now ≡ true }
+    requires { all_hex_of line.now ≡ true }
     ensures { meaning result line.now ≡ shaped Kind.across line.now }
 {
     if line.len() == 10 {
@@ -151,7 +151,7 @@ fn read_across(line: &[u8]) -> Fields
 
 // Whether a line has the length of one with a ring; its digits after the kind are then four for each point number.
 fn fits_ring(line: &[u8]) -> bool
-    ensures { result ≡ fitsRing (length line.now) }
+    ensures { result ≡ fits_ring_of (length line.now) }
 {
     let n = line.len();
     if n <= 514 {

@@ -1,17 +1,17 @@
 // Upper-case hexadecimal: whether a line has digits only.
 ghost use Rattle.std.specs.Prelude.{◌+◌, ◌<◌, ◌≤◌, ◌≡◌, true, length, take, drop};
-ghost use Rattle.hex.specs.Hex.{isHex, allHex};
+ghost use Rattle.hex.specs.Hex.{is_hex_of, all_hex_of};
 
 // Whether a byte is a digit; without branches, so that a line is tested many bytes at a time.
 fn is_hex(b: u8) -> bool
-    ensures { result ≡ isHex b }
+    ensures { result ≡ is_hex_of b }
 {
     (48 <= b) & (b < 58) | (65 <= b) & (b < 71)
 }
 
 // Whether each byte of a short line is a digit.
 fn each_hex(line: &[u8]) -> bool
-    ensures { result ≡ allHex line.now }
+    ensures { result ≡ all_hex_of line.now }
 {
     let mut good = true;
     let mut i = 0;
@@ -26,7 +26,7 @@ fn each_hex(line: &[u8]) -> bool
 // Whether sixteen bytes are digits: a number known beforehand, so that they are tested at once.
 fn sixteen_hex(line: &[u8], at: usize) -> bool
     requires { at + 16 ≤ length line.now }
-    ensures { result ≡ allHex (take 16 (drop at line.now)) }
+    ensures { result ≡ all_hex_of (take 16 (drop at line.now)) }
 {
     let mut good = true;
     let mut i = 0;
@@ -40,7 +40,7 @@ fn sixteen_hex(line: &[u8], at: usize) -> bool
 
 // Whether every byte of a line is a digit: its last sixteen bytes, and those before them sixteen at a time.
 pub fn all_hex(line: &[u8]) -> bool
-    ensures { result ≡ allHex line.now }
+    ensures { result ≡ all_hex_of line.now }
 {
     if line.len() < 16 {
         return each_hex(line);

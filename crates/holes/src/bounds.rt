@@ -1,8 +1,8 @@
 // The box around a ring in a plane: rings, or an edge and a ring, whose boxes have no place in common share none.
 ghost use Rattle.std.specs.Prelude.{◌≡◌, ◌<◌, length};
 ghost use Rattle.space.specs.held.Points.{Coords, Known};
-ghost use Rattle.plane.specs.held.Edges.{asSegment, spot, Close, Ends};
-ghost use Rattle.fan.specs.held.Fan.{spotIn};
+ghost use Rattle.plane.specs.held.Edges.{as_segment, spot, Close, Ends};
+ghost use Rattle.fan.specs.held.Fan.{spot_in};
 ghost use Rattle.rays.specs.held.Seen.{Plane};
 ghost use Rattle.holes.specs.held.Boxes.{further, Sized, Widened, Bounded, parted, beside};
 
@@ -45,7 +45,7 @@ pub fn bounds_of(points: &[i32; 1536], ring: &[u16], j: usize, k: usize) -> Boun
     requires coords { Coords points.now }
     requires known { Known ring.now }
     requires plane { Plane j k }
-    ensures { Bounded (spotIn points.now j k) ring.now (length ring.now) result }
+    ensures { Bounded (spot_in points.now j k) ring.now (length ring.now) result }
 {
     let mut b = Bounds {
         lu: 100000,
@@ -82,8 +82,8 @@ pub fn parted(a: Bounds, b: Bounds) -> bool
 
 // Whether an edge lies wholly on one side of a box.
 pub fn beside(b: Bounds, e: Edge) -> bool
-    requires { (Sized b) × (Ends (asSegment e)) }
-    ensures { result ≡ beside b (asSegment e) }
+    requires { (Sized b) × (Ends (as_segment e)) }
+    ensures { result ≡ beside b (as_segment e) }
 {
     let lu = b.lu;
     let hu = b.hu;

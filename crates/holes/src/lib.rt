@@ -5,8 +5,8 @@ mod meets;
 
 ghost use Rattle.std.specs.Prelude.{◌≡◌, map};
 ghost use Rattle.space.specs.held.Points.{points_of, Coords};
-ghost use Rattle.ring.specs.Polygon.{ringsOf};
-ghost use Rattle.ring.specs.held.Rings.{polygonOf};
+ghost use Rattle.ring.specs.Polygon.{rings_of};
+ghost use Rattle.ring.specs.held.Rings.{polygon_of};
 ghost use Rattle.holes.specs.Holes.{seen, is_shared};
 ghost use Rattle.holes.specs.held.Rings.{Lies};
 
@@ -23,7 +23,7 @@ pub fn is_shared(
 ) -> bool
     requires coords { Coords points.now }
     requires lies { Lies entries.now starts.now from to }
-    ensures { result ≡ is_shared (map (seen axis (points_of points.now)) (ringsOf (polygonOf entries.now starts.now from to))) }
+    ensures { result ≡ is_shared (map (seen axis (points_of points.now)) (rings_of (polygon_of entries.now starts.now from to))) }
 {
     let j = rays::first_left(axis);
     let k = rays::second_left(axis);

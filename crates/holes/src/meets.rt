@@ -1,15 +1,15 @@
 // Check 0E: whether two rings share a point. Boxes tell most rings and edges apart, before anything is multiplied.
 ghost use Rattle.std.specs.Prelude.{◌≡◌, ◌+◌, ◌-◌, ◌<◌, length};
-ghost use Rattle.whole.specs.Lists.{any, anyTwo, steps};
+ghost use Rattle.whole.specs.Lists.{any, any_two, steps};
 ghost use Rattle.whole.specs.held.Spans.{span};
 ghost use Rattle.space.specs.held.Points.{Coords, Known};
 ghost use Rattle.plane.specs.Plane.{share};
-ghost use Rattle.plane.specs.held.Edges.{asSegment, Ends};
-ghost use Rattle.fan.specs.held.Fan.{spotIn};
-ghost use Rattle.rays.specs.held.Seen.{spotsIn, Plane};
+ghost use Rattle.plane.specs.held.Edges.{as_segment, Ends};
+ghost use Rattle.fan.specs.held.Fan.{spot_in};
+ghost use Rattle.rays.specs.held.Seen.{spots_in, Plane};
 ghost use Rattle.holes.specs.Holes.{meet};
 ghost use Rattle.holes.specs.held.Boxes.{Bounded};
-ghost use Rattle.holes.specs.held.Rings.{Ring, Rings, Lies, spotsAt};
+ghost use Rattle.holes.specs.held.Rings.{Ring, Rings, Lies, spots_at};
 
 use super::bounds;
 use super::bounds::Bounds;
@@ -19,7 +19,7 @@ use plane::Edge;
 fn edge_of(points: &[i32; 1536], a: u16, b: u16, j: usize, k: usize) -> Edge
     requires coords { Coords points.now }
     requires a_bound { (a < 512) × (b < 512) × Plane j k }
-    ensures { asSegment result ≡ (spotIn points.now j k a, spotIn points.now j k b) }
+    ensures { as_segment result ≡ (spot_in points.now j k a, spot_in points.now j k b) }
 {
     let au = space::coordinate(points, a, j);
     let av = space::coordinate(points, a, k);
@@ -32,9 +32,9 @@ fn edge_of(points: &[i32; 1536], a: u16, b: u16, j: usize, k: usize) -> Edge
 fn edge_meets(points: &[i32; 1536], ring: &[u16], j: usize, k: usize, e: Edge, b: Bounds) -> bool
     requires coords { Coords points.now }
     requires known { (Known ring.now) × (Plane j k) }
-    requires ends { Ends (asSegment e) }
-    requires bounded { Bounded (spotIn points.now j k) ring.now (length ring.now) b }
-    ensures { result ≡ any (share (asSegment e)) (steps (spotsIn points.now j k ring.now)) }
+    requires ends { Ends (as_segment e) }
+    requires bounded { Bounded (spot_in points.now j k) ring.now (length ring.now) b }
+    ensures { result ≡ any (share (as_segment e)) (steps (spots_in points.now j k ring.now)) }
 {
     if bounds::beside(b, e) {
         return false;
@@ -58,8 +58,8 @@ fn edge_meets(points: &[i32; 1536], ring: &[u16], j: usize, k: usize, e: Edge, b
 fn rings_meet(points: &[i32; 1536], r: &[u16], s: &[u16], j: usize, k: usize, b: Bounds) -> bool
     requires coords { Coords points.now }
     requires known { (Known r.now) × (Known s.now) × (Plane j k) }
-    requires bounded { Bounded (spotIn points.now j k) s.now (length s.now) b }
-    ensures { result ≡ meet (spotsIn points.now j k r.now) (spotsIn points.now j k s.now) }
+    requires bounded { Bounded (spot_in points.now j k) s.now (length s.now) b }
+    ensures { result ≡ meet (spots_in points.now j k r.now) (spots_in points.now j k s.now) }
 {
     let n = r.len();
     let mut i: usize = 0;
@@ -90,8 +90,8 @@ fn meets_ring(
     requires coords { Coords points.now }
     requires ring { Ring entries.now starts.now q }
     requires known { (Known r.now) × (Plane j k) }
-    requires bounded { Bounded (spotIn points.now j k) r.now (length r.now) b }
-    ensures { result ≡ meet (spotsIn points.now j k r.now) (spotsAt points.now j k entries.now starts.now q) }
+    requires bounded { Bounded (spot_in points.now j k) r.now (length r.now) b }
+    ensures { result ≡ meet (spots_in points.now j k r.now) (spots_at points.now j k entries.now starts.now q) }
 {
     let from = starts[q] as usize;
     let to = starts[q + 1] as usize;
@@ -118,7 +118,7 @@ fn meets_one(
     requires coords { Coords points.now }
     requires rings { Rings entries.now starts.now p to }
     requires known { (Known r.now) × (Plane j k) }
-    ensures { result ≡ any (meet (spotsIn points.now j k r.now)) (span (spotsAt points.now j k entries.now starts.now) p (to - p)) }
+    ensures { result ≡ any (meet (spots_in points.now j k r.now)) (span (spots_at points.now j k entries.now starts.now) p (to - p)) }
 {
     let b = bounds::bounds_of(points, r, j, k);
     let mut q = p;
@@ -144,7 +144,7 @@ fn meets_later(
     requires coords { Coords points.now }
     requires ring { (Ring entries.now starts.now p) × (Rings entries.now starts.now (p + 1) to) }
     requires plane { Plane j k }
-    ensures { result ≡ any (meet (spotsAt points.now j k entries.now starts.now p)) (span (spotsAt points.now j k entries.now starts.now) (p + 1) (to - (p + 1))) }
+    ensures { result ≡ any (meet (spots_at points.now j k entries.now starts.now p)) (span (spots_at points.now j k entries.now starts.now) (p + 1) (to - (p + 1))) }
 {
     let from = starts[p] as usize;
     let next = p + 1;
@@ -167,7 +167,7 @@ pub fn two_meet(
     requires coords { Coords points.now }
     requires lies { Lies entries.now starts.now from to }
     requires plane { Plane j k }
-    ensures { result ≡ anyTwo meet (span (spotsAt points.now j k entries.now starts.now) from (to - from)) }
+    ensures { result ≡ any_two meet (span (spots_at points.now j k entries.now starts.now) from (to - from)) }
 {
     let mut p = from;
     while p + 1 < to {

@@ -3,15 +3,15 @@ use Rattle.std.specs.Prelude.{ℕ, ◌+◌, ◌≡◌, List, ◌∷◌, ◌++◌
 use Rattle.whole.specs.All.{All}
 use Rattle.whole.specs.Least.{Least}
 use Rattle.space.specs.Space.{Point, places}
-use Rattle.plane.specs.Plane.{largestAxis}
-use Rattle.ring.specs.Polygon.{Polygon, ringsOf, entriesOf, all}
+use Rattle.plane.specs.Plane.{largest_axis_of}
+use Rattle.ring.specs.Polygon.{Polygon, rings_of, entries_from, all}
 use Rattle.ring.specs.Position.{Stood}
 use Rattle.normal.specs.Normal.{normal}
 use Rattle.crossing.specs.Position.{Meets}
 use Rattle.even.specs.Position.{Off}
 use Rattle.polygon.specs.declared.Finding.{Finding}
 use Rattle.polygon.specs.declared.Finding.TheVariants.{Sound}
-use Rattle.polygon.specs.Ring.{edgesIn, ringFinding, findingNumber, findingPosition}
+use Rattle.polygon.specs.Ring.{edges_in, ring_finding, finding_number_of, finding_position_of}
 
 -- "A position in a later ring adds the entries of all rings before it, an edge's too": in a ring, where those before it pass 01 to 05, the
 -- least place of which P holds, and i counts it so
@@ -19,8 +19,8 @@ pub record Placed (points : List Point) (p : Polygon) (P : List ℕ → ℕ → 
   pub done : List (List ℕ)
   pub ring : List ℕ
   pub rest : List (List ℕ)
-  pub rings : ringsOf p ≡ done ++ ring ∷ rest
-  pub pass : All (λ (r : List ℕ). ringFinding points r ≡ Sound) done
+  pub rings : rings_of p ≡ done ++ ring ∷ rest
+  pub pass : All (λ (r : List ℕ). ring_finding points r ≡ Sound) done
   pub at : ℕ
   pub counted : i ≡ length (all (λ r. r) done) + at
   pub least : Least (P ring) at
@@ -29,7 +29,7 @@ pub record Placed (points : List Point) (p : Polygon) (P : List ℕ → ℕ → 
 -- has a forbidden meeting; for 06 the least failing entry index; else 0"; 06 "for all points with the outer ring's normal and first
 -- point"; "0E and 0F give 0"
 pub record Position (tolerance : ℕ) (points : List Point) (p : Polygon) (f : Finding) : Type 0 where
-  pub of-03 : findingNumber f ≡ 3 → Placed points p Stood (findingPosition f)
-  pub of-05 : findingNumber f ≡ 5 → Placed points p (λ ring. Meets (edgesIn (largestAxis (normal (places points ring))) (places points ring))) (findingPosition f)
-  pub of-06 : findingNumber f ≡ 6 → Least (Off tolerance (normal (places points p.outer)) (places points (entriesOf p))) (findingPosition f)
-  pub of_others : (findingNumber f ≡ 3 → ⊥) → (findingNumber f ≡ 5 → ⊥) → (findingNumber f ≡ 6 → ⊥) → findingPosition f ≡ 0
+  pub of_03 : finding_number_of f ≡ 3 → Placed points p Stood (finding_position_of f)
+  pub of_05 : finding_number_of f ≡ 5 → Placed points p (λ ring. Meets (edges_in (largest_axis_of (normal (places points ring))) (places points ring))) (finding_position_of f)
+  pub of_06 : finding_number_of f ≡ 6 → Least (Off tolerance (normal (places points p.outer)) (places points (entries_from p))) (finding_position_of f)
+  pub of_others : (finding_number_of f ≡ 3 → ⊥) → (finding_number_of f ≡ 5 → ⊥) → (finding_number_of f ≡ 6 → ⊥) → finding_position_of f ≡ 0

@@ -7,19 +7,19 @@ ghost use Rattle.std.specs.Prelude.{◌≡◌, true, ◌≤◌, ◌<◌, length}
 ghost use Rattle.whole.specs.Lists.{first};
 ghost use Rattle.whole.specs.laws.First.{rows};
 ghost use Rattle.space.specs.Space.{places};
-ghost use Rattle.space.specs.held.Points.{points_of, Coords, asPoint, Near};
+ghost use Rattle.space.specs.held.Points.{points_of, Coords, as_point, Near};
 ghost use Rattle.normal.specs.Normal.{normal};
-ghost use Rattle.even.specs.Even.{unevenAt};
-ghost use Rattle.ring.specs.Polygon.{one, ringsOf, entriesOf};
-ghost use Rattle.ring.specs.held.Rings.{ringAt, polygonOf};
+ghost use Rattle.even.specs.Even.{uneven_at};
+ghost use Rattle.ring.specs.Polygon.{one, rings_of, entries_from};
+ghost use Rattle.ring.specs.held.Rings.{ring_at, polygon_of};
 ghost use Rattle.holes.specs.held.Rings.{Ring, Lies};
 ghost use Rattle.polygon.specs.declared.Finding.TheVariants.{Sound};
-ghost use Rattle.polygon.specs.Ring.{findingNumber, findingPosition};
-ghost use Rattle.polygon.specs.held.Findings.{keptFinding};
-ghost use Rattle.polygon.specs.held.Position.{hasPosition};
+ghost use Rattle.polygon.specs.Ring.{finding_number_of, finding_position_of};
+ghost use Rattle.polygon.specs.held.Findings.{kept_finding};
+ghost use Rattle.polygon.specs.held.Position.{has_position_of};
 ghost use Rattle.inner.specs.Finding.{finding, part};
-ghost use Rattle.inner.specs.laws.Rows.{ringsFinding};
-ghost use Rattle.inner.specs.laws.Checks.{lastChecks};
+ghost use Rattle.inner.specs.laws.Rows.{rings_finding};
+ghost use Rattle.inner.specs.laws.Checks.{last_checks};
 
 use polygon::Look;
 use space::Place;
@@ -27,8 +27,8 @@ use space::Place;
 // The normal of ring q.
 fn normal_of(points: &[i32; 1536], entries: &[u16; 1024], starts: &[u16; 1025], q: usize) -> Place
     requires coords { Coords points.now }
-    requires ring { (Ring entries.now starts.now q) × (1 ≤ length (ringAt entries.now starts.now q)) }
-    ensures { asPoint result ≡ normal (places (points_of points.now) (ringAt entries.now starts.now q)) }
+    requires ring { (Ring entries.now starts.now q) × (1 ≤ length (ring_at entries.now starts.now q)) }
+    ensures { as_point result ≡ normal (places (points_of points.now) (ring_at entries.now starts.now q)) }
 {
     let from = starts[q] as usize;
     let to = starts[q + 1] as usize;
@@ -48,9 +48,9 @@ fn first_uneven(
 ) -> usize
     requires coords { Coords points.now }
     requires lies { Lies entries.now starts.now from to }
-    requires in_bounds { (1 ≤ length (ringAt entries.now starts.now from)) × (tolerance ≤ 1000) }
-    requires near { Near 10160000000000 (asPoint n) }
-    ensures { result ≡ unevenAt tolerance (asPoint n) (places (points_of points.now) (entriesOf (polygonOf entries.now starts.now from to))) }
+    requires in_bounds { (1 ≤ length (ring_at entries.now starts.now from)) × (tolerance ≤ 1000) }
+    requires near { Near 10160000000000 (as_point n) }
+    ensures { result ≡ uneven_at tolerance (as_point n) (places (points_of points.now) (entries_from (polygon_of entries.now starts.now from to))) }
 {
     let first = starts[from] as usize;
     let last = starts[to] as usize;
@@ -70,8 +70,8 @@ fn last_three(
     requires coords { Coords points.now }
     requires lies { Lies entries.now starts.now from to }
     requires tolerance_bound { tolerance ≤ 1000 }
-    requires to_value { ringsFinding (points_of points.now) 0 (ringsOf (polygonOf entries.now starts.now from to)) ≡ Sound }
-    ensures { result ≡ keptFinding (first Sound (rows (lastChecks tolerance (points_of points.now) (polygonOf entries.now starts.now from to)))) }
+    requires to_value { rings_finding (points_of points.now) 0 (rings_of (polygon_of entries.now starts.now from to)) ≡ Sound }
+    ensures { result ≡ kept_finding (first Sound (rows (last_checks tolerance (points_of points.now) (polygon_of entries.now starts.now from to)))) }
 {
     let n = normal_of(points, entries, starts, from);
     let uneven = first_uneven(points, entries, starts, from, to, tolerance, n);
@@ -99,8 +99,8 @@ fn look_at_one(
     requires coords { Coords points.now }
     requires ring { Ring entries.now starts.now q }
     requires tolerance_bound { tolerance ≤ 1000 }
-    ensures kept_value { result.kept ≡ keptFinding (finding tolerance (points_of points.now) (one (ringAt entries.now starts.now q))) }
-    ensures part_value { result.part ≡ part (points_of points.now) (one (ringAt entries.now starts.now q)) }
+    ensures kept_value { result.kept ≡ kept_finding (finding tolerance (points_of points.now) (one (ring_at entries.now starts.now q))) }
+    ensures part_value { result.part ≡ part (points_of points.now) (one (ring_at entries.now starts.now q)) }
 {
     let from = starts[q] as usize;
     let to = starts[q + 1] as usize;
@@ -121,8 +121,8 @@ pub fn look_at_several(
     requires coords { Coords points.now }
     requires lies { Lies entries.now starts.now from to }
     requires tolerance_bound { tolerance ≤ 1000 }
-    ensures kept_value { result.kept ≡ keptFinding (finding tolerance (points_of points.now) (polygonOf entries.now starts.now from to)) }
-    ensures part_value { result.part ≡ part (points_of points.now) (polygonOf entries.now starts.now from to) }
+    ensures kept_value { result.kept ≡ kept_finding (finding tolerance (points_of points.now) (polygon_of entries.now starts.now from to)) }
+    ensures part_value { result.part ≡ part (points_of points.now) (polygon_of entries.now starts.now from to) }
 {
     let early = rings::look_at_rings(points, entries, starts, from, to);
     let kept = early.kept;
@@ -146,8 +146,8 @@ pub fn look_at(
     requires coords { Coords points.now }
     requires lies { Lies entries.now starts.now from to }
     requires tolerance_bound { tolerance ≤ 1000 }
-    ensures kept_value { result.kept ≡ keptFinding (finding tolerance (points_of points.now) (polygonOf entries.now starts.now from to)) }
-    ensures part_value { result.part ≡ part (points_of points.now) (polygonOf entries.now starts.now from to) }
+    ensures kept_value { result.kept ≡ kept_finding (finding tolerance (points_of points.now) (polygon_of entries.now starts.now from to)) }
+    ensures part_value { result.part ≡ part (points_of points.now) (polygon_of entries.now starts.now from to) }
 {
     if to == from + 1 {
         return look_at_one(points, entries, starts, from, tolerance);
@@ -168,8 +168,8 @@ pub fn position_of(
     requires coords { Coords points.now }
     requires lies { Lies entries.now starts.now from to }
     requires tolerance_bound { tolerance ≤ 1000 }
-    requires number_value { (number ≡ findingNumber (finding tolerance (points_of points.now) (polygonOf entries.now starts.now from to))) × (hasPosition (finding tolerance (points_of points.now) (polygonOf entries.now starts.now from to)) ≡ true) }
-    ensures { result ≡ findingPosition (finding tolerance (points_of points.now) (polygonOf entries.now starts.now from to)) }
+    requires number_value { (number ≡ finding_number_of (finding tolerance (points_of points.now) (polygon_of entries.now starts.now from to))) × (has_position_of (finding tolerance (points_of points.now) (polygon_of entries.now starts.now from to)) ≡ true) }
+    ensures { result ≡ finding_position_of (finding tolerance (points_of points.now) (polygon_of entries.now starts.now from to)) }
 {
     if number == 6 {
         let outer = normal_of(points, entries, starts, from);

@@ -3,22 +3,22 @@ ghost use Rattle.std.specs.Prelude.{◌≡◌, ◌⊎◌, ◌-◌, ◌≤◌, �
 ghost use Rattle.whole.specs.held.Spans.{span};
 ghost use Rattle.space.specs.Space.{places};
 ghost use Rattle.space.specs.held.Points.{points_of, Coords};
-ghost use Rattle.plane.specs.Plane.{largestAxis};
-ghost use Rattle.ring.specs.Entries.{repeatedAt};
-ghost use Rattle.ring.specs.held.Rings.{ringAt};
+ghost use Rattle.plane.specs.Plane.{largest_axis_of};
+ghost use Rattle.ring.specs.Entries.{repeated_at};
+ghost use Rattle.ring.specs.held.Rings.{ring_at};
 ghost use Rattle.normal.specs.Normal.{normal};
-ghost use Rattle.crossing.specs.Crossed.{crossedAt};
+ghost use Rattle.crossing.specs.Crossed.{crossed_at};
 ghost use Rattle.holes.specs.held.Rings.{Ring, Lies};
-ghost use Rattle.polygon.specs.Ring.{edgesIn, findingNumber, findingPosition};
-ghost use Rattle.inner.specs.held.Told.{metAt};
-ghost use Rattle.inner.specs.laws.Rows.{ringsFinding};
+ghost use Rattle.polygon.specs.Ring.{edges_in, finding_number_of, finding_position_of};
+ghost use Rattle.inner.specs.held.Told.{met_at};
+ghost use Rattle.inner.specs.laws.Rows.{rings_finding};
 
 use crate::rings;
 
 // 03 of ring q.
 fn repeated_in(entries: &[u16; 1024], starts: &[u16; 1025], q: usize) -> usize
     requires { Ring entries.now starts.now q }
-    ensures { result ≡ repeatedAt (ringAt entries.now starts.now q) }
+    ensures { result ≡ repeated_at (ring_at entries.now starts.now q) }
 {
     let from = starts[q] as usize;
     let to = starts[q + 1] as usize;
@@ -29,8 +29,8 @@ fn repeated_in(entries: &[u16; 1024], starts: &[u16; 1025], q: usize) -> usize
 // 05 of ring q.
 fn crossed_in(points: &[i32; 1536], entries: &[u16; 1024], starts: &[u16; 1025], q: usize) -> usize
     requires coords { Coords points.now }
-    requires ring { (Ring entries.now starts.now q) × (1 ≤ length (ringAt entries.now starts.now q)) }
-    ensures { result ≡ crossedAt (edgesIn (largestAxis (normal (places (points_of points.now) (ringAt entries.now starts.now q)))) (places (points_of points.now) (ringAt entries.now starts.now q))) }
+    requires ring { (Ring entries.now starts.now q) × (1 ≤ length (ring_at entries.now starts.now q)) }
+    ensures { result ≡ crossed_at (edges_in (largest_axis_of (normal (places (points_of points.now) (ring_at entries.now starts.now q)))) (places (points_of points.now) (ring_at entries.now starts.now q))) }
 {
     let from = starts[q] as usize;
     let to = starts[q + 1] as usize;
@@ -47,8 +47,8 @@ fn met_in(
     number: u16,
 ) -> usize
     requires coords { Coords points.now }
-    requires ring { (Ring entries.now starts.now q) × (1 ≤ length (ringAt entries.now starts.now q)) }
-    ensures { result ≡ metAt number (points_of points.now) (ringAt entries.now starts.now q) }
+    requires ring { (Ring entries.now starts.now q) × (1 ≤ length (ring_at entries.now starts.now q)) }
+    ensures { result ≡ met_at number (points_of points.now) (ring_at entries.now starts.now q) }
 {
     if number == 3 {
         return repeated_in(entries, starts, q);
@@ -68,8 +68,8 @@ pub fn first_met(
     requires coords { Coords points.now }
     requires lies { Lies entries.now starts.now from to }
     requires fact { (number ≡ 3) ⊎ (number ≡ 5) }
-    requires number_value { number ≡ findingNumber (ringsFinding (points_of points.now) 0 (span (ringAt entries.now starts.now) from (to - from))) }
-    ensures { result ≡ findingPosition (ringsFinding (points_of points.now) 0 (span (ringAt entries.now starts.now) from (to - from))) }
+    requires number_value { number ≡ finding_number_of (rings_finding (points_of points.now) 0 (span (ring_at entries.now starts.now) from (to - from))) }
+    ensures { result ≡ finding_position_of (rings_finding (points_of points.now) 0 (span (ring_at entries.now starts.now) from (to - from))) }
 {
     let mut q = from;
     while q < to {

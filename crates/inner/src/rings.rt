@@ -3,13 +3,13 @@ ghost use Rattle.std.specs.Prelude.{◌≡◌, ◌+◌, ◌-◌, ◌≤◌, ◌<
 ghost use Rattle.whole.specs.Lists.{sum_of};
 ghost use Rattle.whole.specs.held.Spans.{span};
 ghost use Rattle.space.specs.held.Points.{points_of, Coords};
-ghost use Rattle.ring.specs.held.Rings.{ringAt};
+ghost use Rattle.ring.specs.held.Rings.{ring_at};
 ghost use Rattle.volume.specs.Part.{part};
 ghost use Rattle.holes.specs.held.Rings.{Ring, Lies};
-ghost use Rattle.polygon.specs.Ring.{ringFinding};
-ghost use Rattle.polygon.specs.held.Findings.{keptFinding};
+ghost use Rattle.polygon.specs.Ring.{ring_finding};
+ghost use Rattle.polygon.specs.held.Findings.{kept_finding};
 ghost use Rattle.inner.specs.held.Told.{Told};
-ghost use Rattle.inner.specs.laws.Rows.{ringsFinding};
+ghost use Rattle.inner.specs.laws.Rows.{rings_finding};
 
 use polygon::Look;
 
@@ -17,8 +17,8 @@ use polygon::Look;
 fn look_at_ring(points: &[i32; 1536], entries: &[u16; 1024], starts: &[u16; 1025], q: usize) -> Look
     requires coords { Coords points.now }
     requires ring { Ring entries.now starts.now q }
-    ensures kept_value { result.kept ≡ keptFinding (ringFinding (points_of points.now) (ringAt entries.now starts.now q)) }
-    ensures part_value { result.part ≡ part (points_of points.now) (ringAt entries.now starts.now q) }
+    ensures kept_value { result.kept ≡ kept_finding (ring_finding (points_of points.now) (ring_at entries.now starts.now q)) }
+    ensures part_value { result.part ≡ part (points_of points.now) (ring_at entries.now starts.now q) }
 {
     let from = starts[q] as usize;
     let to = starts[q + 1] as usize;
@@ -65,8 +65,8 @@ pub fn look_at_rings(
 ) -> Look
     requires coords { Coords points.now }
     requires lies { Lies entries.now starts.now from to }
-    ensures kept_value { result.kept ≡ keptFinding (ringsFinding (points_of points.now) 0 (span (ringAt entries.now starts.now) from (to - from))) }
-    ensures part_value { result.part ≡ sum_of (part (points_of points.now)) (span (ringAt entries.now starts.now) from (to - from)) }
+    ensures kept_value { result.kept ≡ kept_finding (rings_finding (points_of points.now) 0 (span (ring_at entries.now starts.now) from (to - from))) }
+    ensures part_value { result.part ≡ sum_of (part (points_of points.now)) (span (ring_at entries.now starts.now) from (to - from)) }
 {
     let mut kept: u16 = 0;
     let mut part: i64 = 0;

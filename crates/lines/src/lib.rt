@@ -2,12 +2,12 @@
 
 ghost use Rattle.std.specs.Prelude.{◌+◌, ◌<◌, ◌≤◌, ◌≡◌, false, length};
 ghost use Rattle.lines.specs.Lines.{lines};
-ghost use Rattle.lines.specs.held.Offsets.{lineEnd, feeds};
+ghost use Rattle.lines.specs.held.Offsets.{line_end_of, feeds};
 
 // Whether one of eight bytes is a line feed: a number known beforehand, so that they are tested at once.
 fn has_feed(stream: &[u8], at: usize) -> bool
     requires { at + 8 ≤ length stream.now }
-    ensures { result ≡ false → lineEnd stream.now (at + 8) ≡ lineEnd stream.now at }
+    ensures { result ≡ false → line_end_of stream.now (at + 8) ≡ line_end_of stream.now at }
 {
     let mut found = false;
     let mut i = 0;
@@ -21,7 +21,7 @@ fn has_feed(stream: &[u8], at: usize) -> bool
 
 // The offset itself, or one further on in its line, with whole eights of bytes that are no line feeds left behind.
 fn nearer(stream: &[u8], from: usize) -> usize
-    ensures { lineEnd stream.now result ≡ lineEnd stream.now from }
+    ensures { line_end_of stream.now result ≡ line_end_of stream.now from }
 {
     if stream.len() < 8 {
         return from;
@@ -39,7 +39,7 @@ fn nearer(stream: &[u8], from: usize) -> usize
 
 // Where the line that starts at an offset ends: at its line feed, or at the stream's end.
 pub fn line_end(stream: &[u8], from: usize) -> usize
-    ensures { result ≡ lineEnd stream.now from }
+    ensures { result ≡ line_end_of stream.now from }
 {
     let mut i = nearer(stream, from);
     while i < stream.len() {

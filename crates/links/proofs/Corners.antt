@@ -9,29 +9,29 @@ use Rattle.words.specs.held.Words.{step_of, next_of, node_of}
 use Rattle.reach.specs.Reach.{Reach, start, step}
 use Rattle.reach.specs.held.Marking.{Joined, Marked}
 use Rattle.links.specs.held.Linking.{Joins, Cornered}
-use Rattle.links.proofs.Ends.{End, node-either}
+use Rattle.links.proofs.Ends.{End, node_either}
 
 module _ (l : List ℕ) where
   pub joins_at : (h p q : ℕ) → End h → Joined l (node_of h) p q → Joins 1 2 l p q
   joins_at h p q (inl e) j = inl (subst (λ (x : ℕ). Joined l (node_of x) p q) e j)
   joins_at h p q (inr e) j = inr (subst (λ (x : ℕ). Joined l (node_of x) p q) e j)
 
-  joined-even : (h p q : ℕ) → Joined l (node_of h) p q → Joined l (node_of h) q p
-  joined-even h p q j = record { at = j.at; even = j.even; within = j.within; ends = ⊎_elim (λ w. inr (w.1, w.0)) (λ w. inl (w.1, w.0)) j.ends }
+  joined_even : (h p q : ℕ) → Joined l (node_of h) p q → Joined l (node_of h) q p
+  joined_even h p q j = record { at = j.at; even = j.even; within = j.within; ends = ⊎_elim (λ w. inr (w.1, w.0)) (λ w. inl (w.1, w.0)) j.ends }
 
-  pub joins-even : (p q : ℕ) → Joins 1 2 l p q → Joins 1 2 l q p
-  joins-even p q (inl j) = inl (joined-even 1 p q j)
-  joins-even p q (inr j) = inr (joined-even 2 p q j)
+  pub joins_even : (p q : ℕ) → Joins 1 2 l p q → Joins 1 2 l q p
+  joins_even p q (inl j) = inl (joined_even 1 p q j)
+  joins_even p q (inr j) = inr (joined_even 2 p q j)
 
-  pub pair-joins : (h i : ℕ) → End h → i % 2 ≡ 0 → i + 1 < length l → Joins 1 2 l (node_of h (get_or l i 0)) (node_of h (get_or l (i + 1) 0))
-  pair-joins h i z e lt = joins_at h (node_of h (get_or l i 0)) (node_of h (get_or l (i + 1) 0)) z (record { at = i; even = e; within = lt; ends = inl (refl, refl) })
+  pub pair_joins : (h i : ℕ) → End h → i % 2 ≡ 0 → i + 1 < length l → Joins 1 2 l (node_of h (get_or l i 0)) (node_of h (get_or l (i + 1) 0))
+  pair_joins h i z e lt = joins_at h (node_of h (get_or l i 0)) (node_of h (get_or l (i + 1) 0)) z (record { at = i; even = e; within = lt; ends = inl (refl, refl) })
 
   -- a step starts at e
   abbrev pub Starts : ℕ → Type 0
   Starts e = (i : ℕ) × (i < length l) × (step_of (get_or l i 0) ≡ e)
 
-  pub starts-small : (e : ℕ) → Starts e → e < 1024
-  starts-small e s = subst (λ (k : ℕ). k < 1024) s.2 (small (get_or l s.0 0))
+  pub starts_small : (e : ℕ) → Starts e → e < 1024
+  starts_small e s = subst (λ (k : ℕ). k < 1024) s.2 (small (get_or l s.0 0))
     where
       small : (w : ℕ) → step_of w < 1024
       small w = omega arith
@@ -39,7 +39,7 @@ module _ (l : List ℕ) where
   module _ (es : List ℕ) (c : Cornered es l) where
     -- a step ends where one starts
     pub node-starts : (h i : ℕ) → End h → i < length l → Starts (node_of h (get_or l i 0))
-    node-starts h i z lt = ⊎_elim (λ (e : step_of (get_or l i 0) ≡ node_of h (get_or l i 0)). (i, lt, e)) (λ (e : next_of (get_or l i 0) ≡ node_of h (get_or l i 0)). let r = c.rounds i lt in (r.0, r.1, r.2 ∙ e)) (node-either h (get_or l i 0) z)
+    node-starts h i z lt = ⊎_elim (λ (e : step_of (get_or l i 0) ≡ node_of h (get_or l i 0)). (i, lt, e)) (λ (e : next_of (get_or l i 0) ≡ node_of h (get_or l i 0)). let r = c.rounds i lt in (r.0, r.1, r.2 ∙ e)) (node_either h (get_or l i 0) z)
 
     joined-starts : (h p q : ℕ) → End h → Joined l (node_of h) p q → Starts q
     joined-starts h p q z j = go j.ends

@@ -13,10 +13,10 @@ use Rattle.bits.specs.held.Bits.{sum_of}
 use Rattle.words.specs.held.Words.{step_of}
 use Rattle.reach.specs.Reach.{start}
 use Rattle.reach.specs.held.Marking.{Marked, Marks, Grown, Flooded}
-use Rattle.reach.specs.laws.Joins.{grown-on, grown-floods}
-use Rattle.reach.specs.laws.Marks.{mark-either, mark-bits}
+use Rattle.reach.specs.laws.Joins.{grown_on, grown_floods}
+use Rattle.reach.specs.laws.Marks.{mark_either, mark-bits}
 use Rattle.links.specs.held.Linking.{Joins, Cornered, Seeds, Cut, Begun, Unlinks}
-use Rattle.links.proofs.Corners.{Starts, starts-small, joins-starts, reach-starts}
+use Rattle.links.proofs.Corners.{Starts, starts_small, joins-starts, reach-starts}
 
 -- ---- the sum of marks after a store
 abbrev Bits : List ℕ → Type 0
@@ -50,12 +50,12 @@ Owned g l m = (e : ℕ) → Marked m e → (i : ℕ) × (i < length l) × (g (ge
 
 module _ (g : ℕ → ℕ) where
   -- clearing the first word's node leaves marks on the nodes of the others
-  pub count-few : (l m : List ℕ) → Bits m → Owned g l m → sum_of m ≤ length l
-  count-few [] m b o = omega (arith, sum-none m none)
+  pub count_few : (l m : List ℕ) → Bits m → Owned g l m → sum_of m ≤ length l
+  count_few [] m b o = omega (arith, sum-none m none)
     where
       none : (p : ℕ) → get_or m p 0 ≡ 0
       none p = by_cases (ℕ_discrete (get_or m p 0) 1) (λ e. absurd (not-suc-le-zero (o p e).1)) (λ d. omega (arith, b p))
-  count-few (w ∷ l) m b o = omega (arith, sum-clear m (g w) b, count-few l (set m (g w) 0) bits owned)
+  count_few (w ∷ l) m b o = omega (arith, sum-clear m (g w) b, count_few l (set m (g w) 0) bits owned)
     where
       old : (e : ℕ) → e ≢ g w → get_or (set m (g w) 0) e 0 ≡ get_or m e 0
       old e d = get_or-set_other m (g w) e 0 0 d
@@ -81,17 +81,17 @@ module _ (g : ℕ → ℕ) where
       x = g (get_or l i 0)
 
       more : get_or m x 0 ≡ 0 → ⊥
-      more z = omega (arith, sum_more m x k z, count-few l (set m x 1) (mark-bits m x k b) (λ f r. ⊎_elim (λ (q : f ≡ x). (i, h, sym q)) (λ (q : Marked m f). o f q) (mark-either m x k f r)))
+      more z = omega (arith, sum_more m x k z, count_few l (set m x 1) (mark-bits m x k b) (λ f r. ⊎_elim (λ (q : f ≡ x). (i, h, sym q)) (λ (q : Marked m f). o f q) (mark_either m x k f r)))
 
 -- ---- marks on corners
-flood-grown : (R : ℕ → ℕ → Type 0) (m₀ m : List ℕ) → Flooded R m₀ m → Grown R m₀ m
-flood-grown R m₀ m f = record { grows = λ p h. f.whole p (start h); sound = f.sound }
+flood_grown : (R : ℕ → ℕ → Type 0) (m₀ m : List ℕ) → Flooded R m₀ m → Grown R m₀ m
+flood_grown R m₀ m f = record { grows = λ p h. f.whole p (start h); sound = f.sound }
 
 module _ (es l : List ℕ) (c : Cornered es l) where
   module _ (from m : List ℕ) (s : Seeds es l from) (g : Grown (Joins 1 2 l) from m) (marks : Marks 1024 m) (e : sum_of m ≡ length l) where
     -- each corner has a mark
     marked : (x : ℕ) → Starts l x → Marked m x
-    marked x k = subst (Marked m) k.2 (count-all step_of l m marks.bits (λ p h. reach-starts l es c from s.node (g.sound p h)) e k.0 k.1 (subst (λ (z : ℕ). z < length m) (sym k.2) (inside x (starts-small l x k))))
+    marked x k = subst (Marked m) k.2 (count-all step_of l m marks.bits (λ p h. reach-starts l es c from s.node (g.sound p h)) e k.0 k.1 (subst (λ (z : ℕ). z < length m) (sym k.2) (inside x (starts_small l x k))))
       where
         inside : (x : ℕ) → x < 1024 → x < length m
         inside x h = omega (arith, marks.size)
@@ -102,7 +102,7 @@ module _ (es l : List ℕ) (c : Cornered es l) where
       seeds = s;
       to = m;
       marks = marks;
-      flood = grown-floods (Joins 1 2 l) from m g (λ p q _ j. marked q (joins-starts l es c p q j));
+      flood = grown_floods (Joins 1 2 l) from m g (λ p q _ j. marked q (joins-starts l es c p q j));
       least = record { within = le_refl 65536; found = λ h. absurd (lt_irrefl 65536 h); missing = λ _ v u. uncut v u };
     }
       where
@@ -113,5 +113,5 @@ module _ (es l : List ℕ) (c : Cornered es l) where
   pub begun-linked : (m : List ℕ) → Begun es l m → Marks 1024 m → sum_of m ≡ length l → Unlinks es l 65536
   begun-linked m b = all-linked b.from m b.seeds b.grown
 
-  pub traced-linked : (m m' : List ℕ) → Begun es l m → Flooded (Joins 1 2 l) m m' → Marks 1024 m' → sum_of m' ≡ length l → Unlinks es l 65536
-  traced-linked m m' b f = all-linked b.from m' b.seeds (grown-on (Joins 1 2 l) b.from m m' b.grown (flood-grown (Joins 1 2 l) m m' f))
+  pub traced_linked : (m m' : List ℕ) → Begun es l m → Flooded (Joins 1 2 l) m m' → Marks 1024 m' → sum_of m' ≡ length l → Unlinks es l 65536
+  traced_linked m m' b f = all-linked b.from m' b.seeds (grown_on (Joins 1 2 l) b.from m m' b.grown (flood_grown (Joins 1 2 l) m m' f))

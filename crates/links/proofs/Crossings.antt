@@ -13,19 +13,19 @@ use Rattle.links.specs.held.Linking.{Joins, Nodes, Selves, Links, Lone, Crossed}
 use Rattle.reach.specs.laws.Marks.{at_set}
 use Rattle.words.specs.laws.Mates.{mate-up, mate-down, mate_one}
 use Rattle.reach.specs.laws.Joined.{mate-joined}
-use Rattle.links.proofs.Ends.{End, outEnd, innEnd, step-node, next-node, out-end, inn-end, side, node-small}
+use Rattle.links.proofs.Ends.{End, out_end, inn_end, step-node, next-node, out_end_lem, inn_end_lem, side, node_small}
 use Rattle.links.proofs.Corners.{joins_at}
 
 -- one more entry of a table of its own places
 module _ (t : List ℕ) (i : ℕ) (z : length t ≡ 1024) (s : (k : ℕ) → k < i → get_or t k 0 ≡ k) where
-  pub selves-more : i < 1024 → (length (set t i i) ≡ 1024) × ((k : ℕ) → k < i + 1 → get_or (set t i i) k 0 ≡ k)
-  selves-more h = (simp length-set z, λ k lt. ⊎_elim (λ (w : (k ≡ i) × (get_or (set t i i) k 0 ≡ i)). w.1 ∙ sym w.0) (λ (w : (k ≢ i) × (get_or (set t i i) k 0 ≡ get_or t k 0)). w.1 ∙ s k (before k lt w.0)) (at_set t i i k (omega arith)))
+  pub selves_more : i < 1024 → (length (set t i i) ≡ 1024) × ((k : ℕ) → k < i + 1 → get_or (set t i i) k 0 ≡ k)
+  selves_more h = (simp length-set z, λ k lt. ⊎_elim (λ (w : (k ≡ i) × (get_or (set t i i) k 0 ≡ i)). w.1 ∙ sym w.0) (λ (w : (k ≢ i) × (get_or (set t i i) k 0 ≡ get_or t k 0)). w.1 ∙ s k (before k lt w.0)) (at_set t i i k (omega arith)))
     where
       before : (k : ℕ) → k < i + 1 → k ≢ i → k < i
       before k lt n = omega arith
 
-  pub selves-done : 1024 ≤ i → Selves t
-  selves-done ge = record { size = z; same = λ p h. s p (omega arith) }
+  pub selves_done : 1024 ≤ i → Selves t
+  selves_done ge = record { size = z; same = λ p h. s p (omega arith) }
 
 -- q is what a word whose g is p, and the other of its pair, have for a table of f
 pub record Noted (g : ℕ → ℕ) (f : ℕ → ℕ → ℕ) (l : List ℕ) (p q : ℕ) : Type 0 where
@@ -56,8 +56,8 @@ note-none g f l t s = record {
     small p = by_cases (dec_lt p 1024) (λ lt. omega (arith, s.same p lt)) (λ ge. omega (arith, beyond p ge))
 
 -- where two words are one and stand in one pair, so are the others of their pairs
-mates-same : (l : List ℕ) (i j k k' : ℕ) → j < length l → i < length l → Mate (length l) i k → Mate (length l) j k' → get_or l i 0 ≡ get_or l j 0 → i / 2 ≡ j / 2 → get_or l k 0 ≡ get_or l k' 0
-mates-same l i j k k' hj hi a b e d = by_cases (ℕ_discrete k k') (λ q. ap (λ (x : ℕ). get_or l x 0) q) (λ n. let w = crossed (length l) hi hj a b d n in ap (λ (x : ℕ). get_or l x 0) w.0 ∙ (sym e ∙ ap (λ (x : ℕ). get_or l x 0) (sym w.1)))
+mates_same : (l : List ℕ) (i j k k' : ℕ) → j < length l → i < length l → Mate (length l) i k → Mate (length l) j k' → get_or l i 0 ≡ get_or l j 0 → i / 2 ≡ j / 2 → get_or l k 0 ≡ get_or l k' 0
+mates_same l i j k k' hj hi a b e d = by_cases (ℕ_discrete k k') (λ q. ap (λ (x : ℕ). get_or l x 0) q) (λ n. let w = crossed (length l) hi hj a b d n in ap (λ (x : ℕ). get_or l x 0) w.0 ∙ (sym e ∙ ap (λ (x : ℕ). get_or l x 0) (sym w.1)))
   where
     odd : (x : ℕ) → (x % 2 ≡ 0) ⊎ (x % 2 ≡ 1)
     odd x = by_cases (ℕ_discrete (x % 2) 0) (λ q. inl q) (λ n. inr (omega arith))
@@ -71,7 +71,7 @@ mates-same l i j k k' hj hi a b e d = by_cases (ℕ_discrete k k') (λ q. ap (λ
         go (inl p) (inr q) = (omega (arith, a.up p (omega arith)), omega (arith, b.down q))
         go (inr p) (inl q) = (omega (arith, a.down p), omega (arith, b.up q (omega arith)))
 
-module _ (g : ℕ → ℕ) (f : ℕ → ℕ → ℕ) (l t : List ℕ) (i k : ℕ) (s : Noting g f l t i) (h : i < length l) (mate : Mate (length l) i k) (x y : ℕ) (ex : x ≡ g (get_or l i 0)) (ey : y ≡ f (get_or l i 0) (get_or l k 0)) (in-x : x < 1024) (in-y : y < 1024) where
+module _ (g : ℕ → ℕ) (f : ℕ → ℕ → ℕ) (l t : List ℕ) (i k : ℕ) (s : Noting g f l t i) (h : i < length l) (mate : Mate (length l) i k) (x y : ℕ) (ex : x ≡ g (get_or l i 0)) (ey : y ≡ f (get_or l i 0) (get_or l k 0)) (in_x : x < 1024) (in_y : y < 1024) where
   inside : x < length t
   inside = omega (arith, s.nodes.size)
 
@@ -81,15 +81,15 @@ module _ (g : ℕ → ℕ) (f : ℕ → ℕ → ℕ) (l t : List ℕ) (i k : ℕ
   kept : Lone g l → (j k' : ℕ) → j < i + 1 → j < length l → Mate (length l) j k' → ((g (get_or l j 0) ≡ x) × (get_or (set t x y) (g (get_or l j 0)) 0 ≡ y)) ⊎ ((g (get_or l j 0) ≢ x) × (get_or (set t x y) (g (get_or l j 0)) 0 ≡ get_or t (g (get_or l j 0)) 0)) → get_or (set t x y) (g (get_or l j 0)) 0 ≡ f (get_or l j 0) (get_or l k' 0)
   kept o j k' lt hj b (inl w) =
       let e = o.same i j h hj (sym ex ∙ sym w.0) in
-      w.1 ∙ (ey ∙ (ap (λ (z : ℕ). f z (get_or l k 0)) e.0 ∙ ap (λ (z : ℕ). f (get_or l j 0) z) (mates-same l i j k k' hj h mate b e.0 e.1)))
+      w.1 ∙ (ey ∙ (ap (λ (z : ℕ). f z (get_or l k 0)) e.0 ∙ ap (λ (z : ℕ). f (get_or l j 0) z) (mates_same l i j k k' hj h mate b e.0 e.1)))
   kept o j k' lt hj b (inr w) = w.1 ∙ s.whole o j k' (before (ℕ_discrete j i)) hj b
     where
       before : Dec (j ≡ i) → j < i
       before (yes q) = absurd (w.0 (ap (λ (z : ℕ). g (get_or l z 0)) q ∙ sym ex))
       before (no n) = omega arith
 
-  pub note-more : Noting g f l (set t x y) (i + 1)
-  note-more = record {
+  pub note_more : Noting g f l (set t x y) (i + 1)
+  note_more = record {
     nodes = record {
       size = simp length-set s.nodes.size;
       small = λ p. ⊎_elim (λ (w : (p ≡ x) × (get_or (set t x y) p 0 ≡ y)). omega (arith, w.1)) (λ (w : (p ≢ x) × (get_or (set t x y) p 0 ≡ get_or t p 0)). omega (arith, w.1, s.nodes.small p)) (after p);
@@ -106,11 +106,11 @@ module _ (g : ℕ → ℕ) (f : ℕ → ℕ → ℕ) (l t : List ℕ) (i : ℕ) 
   abbrev w : ℕ
   w = get_or l (i + 1) 0
 
-  first-noted : Noting g f l (set t (g v) (f v w)) (i + 1)
-  first-noted = note-more g f l t i (i + 1) s (omega arith) (mate-up (length l) i even h) (g v) (f v w) refl refl (gs v) (fs v w)
+  first_noted : Noting g f l (set t (g v) (f v w)) (i + 1)
+  first_noted = note_more g f l t i (i + 1) s (omega arith) (mate-up (length l) i even h) (g v) (f v w) refl refl (gs v) (fs v w)
 
-  pub note-pair : Noting g f l (set (set t (g v) (f v w)) (g w) (f w v)) (i + 2)
-  note-pair = subst (λ (k : ℕ). Noting g f l (set (set t (g v) (f v w)) (g w) (f w v)) k) (two i) (note-more g f l (set t (g v) (f v w)) (i + 1) i first-noted h (mate-down (length l) i even h) (g w) (f w v) refl refl (gs w) (fs w v))
+  pub note_pair : Noting g f l (set (set t (g v) (f v w)) (g w) (f w v)) (i + 2)
+  note_pair = subst (λ (k : ℕ). Noting g f l (set (set t (g v) (f v w)) (g w) (f w v)) k) (two i) (note_more g f l (set t (g v) (f v w)) (i + 1) i first_noted h (mate-down (length l) i even h) (g w) (f w v) refl refl (gs w) (fs w v))
     where
       two : (n : ℕ) → n + 1 + 1 ≡ n + 2
       two n = omega arith
@@ -119,33 +119,33 @@ module _ (g : ℕ → ℕ) (f : ℕ → ℕ → ℕ) (l t : List ℕ) (i : ℕ) 
 
 -- the corner of w at the end at which the step of v starts, and the one at the other end
 abbrev pub out_of : ℕ → ℕ → ℕ
-out_of v w = node_of (outEnd v) w
+out_of v w = node_of (out_end v) w
 
-abbrev pub innOf : ℕ → ℕ → ℕ
-innOf v w = node_of (innEnd v) w
+abbrev pub inn_of : ℕ → ℕ → ℕ
+inn_of v w = node_of (inn_end v) w
 
 module _ (l t : List ℕ) (i : ℕ) (even : i % 2 ≡ 0) (h : i + 1 < length l) where
-  pub out-pair : Noting step_of out_of l t i → Noting step_of out_of l (set (set t (step_of (get_or l i 0)) (out_of (get_or l i 0) (get_or l (i + 1) 0))) (step_of (get_or l (i + 1) 0)) (out_of (get_or l (i + 1) 0) (get_or l i 0))) (i + 2)
-  out-pair s = note-pair step_of out_of l t i s even h (λ w. omega arith) (λ v w. node-small (outEnd v) w (out-end v))
+  pub out_pair : Noting step_of out_of l t i → Noting step_of out_of l (set (set t (step_of (get_or l i 0)) (out_of (get_or l i 0) (get_or l (i + 1) 0))) (step_of (get_or l (i + 1) 0)) (out_of (get_or l (i + 1) 0) (get_or l i 0))) (i + 2)
+  out_pair s = note_pair step_of out_of l t i s even h (λ w. omega arith) (λ v w. node_small (out_end v) w (out_end_lem v))
 
-  pub inn-pair : Noting next_of innOf l t i → Noting next_of innOf l (set (set t (next_of (get_or l i 0)) (innOf (get_or l i 0) (get_or l (i + 1) 0))) (next_of (get_or l (i + 1) 0)) (innOf (get_or l (i + 1) 0) (get_or l i 0))) (i + 2)
-  inn-pair s = note-pair next_of innOf l t i s even h (λ w. omega arith) (λ v w. node-small (innEnd v) w (inn-end v))
+  pub inn_pair : Noting next_of inn_of l t i → Noting next_of inn_of l (set (set t (next_of (get_or l i 0)) (inn_of (get_or l i 0) (get_or l (i + 1) 0))) (next_of (get_or l (i + 1) 0)) (inn_of (get_or l (i + 1) 0) (get_or l i 0))) (i + 2)
+  inn_pair s = note_pair next_of inn_of l t i s even h (λ w. omega arith) (λ v w. node_small (inn_end v) w (inn_end_lem v))
 
 module _ (l : List ℕ) where
   -- what a word writes is joined
-  noted-joins : (h p q i k : ℕ) → i < length l → Mate (length l) i k → End h → node_of h (get_or l i 0) ≡ p → node_of h (get_or l k 0) ≡ q → (p ≡ q) ⊎ Joins 1 2 l p q
-  noted-joins h p q i k lt m z a b = ⊎_elim (λ (e : i ≡ k). inl (sym a ∙ (ap (λ (x : ℕ). node_of h (get_or l x 0)) e ∙ b))) (λ (j : Joined l (node_of h) (node_of h (get_or l i 0)) (node_of h (get_or l k 0))). inr (joins_at l h p q z (rw (a, b) at j))) (mate-joined l (node_of h) i k lt m)
+  noted_joins : (h p q i k : ℕ) → i < length l → Mate (length l) i k → End h → node_of h (get_or l i 0) ≡ p → node_of h (get_or l k 0) ≡ q → (p ≡ q) ⊎ Joins 1 2 l p q
+  noted_joins h p q i k lt m z a b = ⊎_elim (λ (e : i ≡ k). inl (sym a ∙ (ap (λ (x : ℕ). node_of h (get_or l x 0)) e ∙ b))) (λ (j : Joined l (node_of h) (node_of h (get_or l i 0)) (node_of h (get_or l k 0))). inr (joins_at l h p q z (rw (a, b) at j))) (mate-joined l (node_of h) i k lt m)
 
-  module _ (out inn : List ℕ) (i : ℕ) (a : Noting step_of out_of l out i) (b : Noting next_of innOf l inn i) (even : i % 2 ≡ 0) (ge : length l ≤ i + 1) where
+  module _ (out inn : List ℕ) (i : ℕ) (a : Noting step_of out_of l out i) (b : Noting next_of inn_of l inn i) (even : i % 2 ≡ 0) (ge : length l ≤ i + 1) where
     sound : (p q : ℕ) → p < 1024 → Links out inn p q → (p ≡ q) ⊎ Joins 1 2 l p q
-    sound p q h (inl e) = ⊎_elim (λ (z : p ≡ q). inl z) (λ (w : Noted step_of out_of l p q). let v = get_or l w.at 0 in noted-joins (outEnd v) p q w.at w.to w.within w.mate (out-end v) (sym (step-node v) ∙ w.from) w.ends) (a.sound p q h e)
-    sound p q h (inr e) = ⊎_elim (λ (z : p ≡ q). inl z) (λ (w : Noted next_of innOf l p q). let v = get_or l w.at 0 in noted-joins (innEnd v) p q w.at w.to w.within w.mate (inn-end v) (sym (next-node v) ∙ w.from) w.ends) (b.sound p q h e)
+    sound p q h (inl e) = ⊎_elim (λ (z : p ≡ q). inl z) (λ (w : Noted step_of out_of l p q). let v = get_or l w.at 0 in noted_joins (out_end v) p q w.at w.to w.within w.mate (out_end_lem v) (sym (step-node v) ∙ w.from) w.ends) (a.sound p q h e)
+    sound p q h (inr e) = ⊎_elim (λ (z : p ≡ q). inl z) (λ (w : Noted next_of inn_of l p q). let v = get_or l w.at 0 in noted_joins (inn_end v) p q w.at w.to w.within w.mate (inn_end_lem v) (sym (next-node v) ∙ w.from) w.ends) (b.sound p q h e)
 
     module _ (f : Lone step_of l) (g : Lone next_of l) where
       across : (h j k : ℕ) → j < i → j < length l → Mate (length l) j k → End h → Links out inn (node_of h (get_or l j 0)) (node_of h (get_or l k 0))
       across h j k before lt m z = go (side h (get_or l j 0) z)
         where
-          go : (h ≡ outEnd (get_or l j 0)) ⊎ (h ≡ innEnd (get_or l j 0)) → Links out inn (node_of h (get_or l j 0)) (node_of h (get_or l k 0))
+          go : (h ≡ out_end (get_or l j 0)) ⊎ (h ≡ inn_end (get_or l j 0)) → Links out inn (node_of h (get_or l j 0)) (node_of h (get_or l k 0))
           go (inl e) = inl (ap (λ (x : ℕ). get_or out x 0) (ap (λ (x : ℕ). node_of x (get_or l j 0)) e ∙ sym (step-node (get_or l j 0))) ∙ (a.whole f j k before lt m ∙ ap (λ (x : ℕ). node_of x (get_or l k 0)) (sym e)))
           go (inr e) = inr (ap (λ (x : ℕ). get_or inn x 0) (ap (λ (x : ℕ). node_of x (get_or l j 0)) e ∙ sym (next-node (get_or l j 0))) ∙ (b.whole g j k before lt m ∙ ap (λ (x : ℕ). node_of x (get_or l k 0)) (sym e)))
 

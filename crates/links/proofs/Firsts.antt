@@ -8,23 +8,23 @@ use mathlib.Core.Logic.{◌⊎◌, inl, inr, ⊎_elim, by_cases}
 use mathlib.Core.List.{List}
 use borrow.Author.Count.{below_more}
 use lib.ListN.{length, get_or, set, length-set}
-use Rattle.words.specs.held.Words.{keyOf, step_of, node_of}
+use Rattle.words.specs.held.Words.{key_from, step_of, node_of}
 use Rattle.reach.specs.Reach.{start}
 use Rattle.reach.specs.held.Marking.{Marked, Marks, Blank, Joint, Grown}
-use Rattle.reach.specs.laws.Joins.{reach-map, joint-grown, grown-none}
+use Rattle.reach.specs.laws.Joins.{reach_map, joint-grown, grown_none}
 use Rattle.whole.specs.Least.{LeastBelow}
-use Rattle.reach.specs.laws.Marks.{mark-new, mark-stays, mark-either, mark-bits}
+use Rattle.reach.specs.laws.Marks.{mark_new, mark_stays, mark_either, mark-bits}
 use Rattle.links.specs.held.Linking.{Joins, Cornered, point_of, Met, Begun, Cut}
-use Rattle.links.proofs.Ends.{End, step-node, out-end, outEnd}
-use Rattle.links.proofs.Corners.{Starts, starts-small, node-starts, pair-joins, joins-even}
+use Rattle.links.proofs.Ends.{End, step-node, out_end_lem, out_end}
+use Rattle.links.proofs.Corners.{Starts, starts_small, node-starts, pair_joins, joins_even}
 
 -- ---- one end of an edge
 module _ (v x y : ℕ) (s m s' m' : List ℕ) (r : ℕ) where
-  pub met-old : Marked s v → s' ≡ s → Joint x y m m' r → Met v x y s m s' m'
-  met-old k e j = record { to = r; old = λ _. (e, j); new = λ d. absurd (d k) }
+  pub met_old : Marked s v → s' ≡ s → Joint x y m m' r → Met v x y s m s' m'
+  met_old k e j = record { to = r; old = λ _. (e, j); new = λ d. absurd (d k) }
 
-  pub met-new : (Marked s v → ⊥) → s' ≡ set s v 1 → Joint x y (set m x 1) m' r → Met v x y s m s' m'
-  met-new d e j = record { to = r; old = λ k. absurd (d k); new = λ _. (e, j) }
+  pub met_new : (Marked s v → ⊥) → s' ≡ set s v 1 → Joint x y (set m x 1) m' r → Met v x y s m s' m'
+  met_new d e j = record { to = r; old = λ k. absurd (d k); new = λ _. (e, j) }
 
 -- the points seen are those of the first corners, one corner each, and from these the marks have grown
 pub record Seeding (es l s m : List ℕ) : Type 0 where
@@ -43,14 +43,14 @@ pub record Seen (es l : List ℕ) (v : ℕ) (s s' m' : List ℕ) : Type 0 where
   pub sees : Marked s' v
 
 module _ (es l s m : List ℕ) (v x y : ℕ) (m' : List ℕ) (size : length s ≡ 1024) (marks : Marks 1024 m) (b : Seeding es l s m) (start-x : Starts l x) (start-y : Starts l y) (point : get_or es x 0 ≡ v) (in-v : v < 1024) (there : Joins 1 2 l x y) where
-  in-x : x < 1024
-  in-x = starts-small l x start-x
+  in_x : x < 1024
+  in_x = starts_small l x start-x
 
-  in-y : y < 1024
-  in-y = starts-small l y start-y
+  in_y : y < 1024
+  in_y = starts_small l y start-y
 
-  seen-old : (r : ℕ) → Marked s v → Joint x y m m' r → Seen es l v s s m'
-  seen-old r k j = record {
+  seen_old : (r : ℕ) → Marked s v → Joint x y m m' r → Seen es l v s s m'
+  seen_old r k j = record {
     seeding = record {
       from = b.from;
       size = b.size;
@@ -58,7 +58,7 @@ module _ (es l s m : List ℕ) (v x y : ℕ) (m' : List ℕ) (size : length s �
       shown = b.shown;
       hidden = b.hidden;
       lone = b.lone;
-      grown = joint-grown x y m m' r j marks.bits (omega (arith, marks.size)) (omega (arith, marks.size)) (Joins 1 2 l) b.from b.grown there (joins-even l x y there);
+      grown = joint-grown x y m m' r j marks.bits (omega (arith, marks.size)) (omega (arith, marks.size)) (Joins 1 2 l) b.from b.grown there (joins_even l x y there);
     };
     grows = λ p h. h;
     sees = k;
@@ -87,8 +87,8 @@ module _ (es l s m : List ℕ) (v x y : ℕ) (m' : List ℕ) (size : length s �
 
     begins : Grown (Joins 1 2 l) (set b.from x 1) (set m x 1)
     begins = record {
-      grows = λ p h. ⊎_elim (λ (q : p ≡ x). subst (λ (k : ℕ). Marked (set m x 1) k) (sym q) (mark-new m x long-m)) (λ (k : Marked b.from p). mark-stays m x long-m p (b.grown.grows p k)) (mark-either b.from x long-f p h);
-      sound = λ p h. ⊎_elim (λ (q : p ≡ x). start (subst (λ (k : ℕ). Marked (set b.from x 1) k) (sym q) (mark-new b.from x long-f))) (λ (k : Marked m p). reach-map (λ q g. start (mark-stays b.from x long-f q g)) (λ _ _ g. g) (b.grown.sound p k)) (mark-either m x long-m p h);
+      grows = λ p h. ⊎_elim (λ (q : p ≡ x). subst (λ (k : ℕ). Marked (set m x 1) k) (sym q) (mark_new m x long-m)) (λ (k : Marked b.from p). mark_stays m x long-m p (b.grown.grows p k)) (mark_either b.from x long-f p h);
+      sound = λ p h. ⊎_elim (λ (q : p ≡ x). start (subst (λ (k : ℕ). Marked (set b.from x 1) k) (sym q) (mark_new b.from x long-f))) (λ (k : Marked m p). reach_map (λ q g. start (mark_stays b.from x long-f q g)) (λ _ _ g. g) (b.grown.sound p k)) (mark_either m x long-m p h);
     }
 
     seen-new : Seen es l v s (set s v 1) m'
@@ -96,18 +96,18 @@ module _ (es l s m : List ℕ) (v x y : ℕ) (m' : List ℕ) (size : length s �
       seeding = record {
         from = set b.from x 1;
         size = simp length-set b.size;
-        node = λ e h. ⊎_elim (λ (q : e ≡ x). subst (Starts l) (sym q) start-x) (λ (k : Marked b.from e). b.node e k) (mark-either b.from x long-f e h);
-        shown = λ u h. ⊎_elim (λ (q : u ≡ v). (x, mark-new b.from x long-f, point ∙ sym q)) (λ (k : Marked s u). let w = b.shown u k in (w.0, mark-stays b.from x long-f w.0 w.1, w.2)) (mark-either s v long-s u h);
-        hidden = λ e h. ⊎_elim (λ (q : e ≡ x). subst (λ (k : ℕ). Marked (set s v 1) k) (sym (ap (λ (k : ℕ). get_or es k 0) q ∙ point)) (mark-new s v long-s)) (λ (k : Marked b.from e). mark-stays s v long-s (get_or es e 0) (b.hidden e k)) (mark-either b.from x long-f e h);
-        lone = λ e f h k. lone e f (mark-either b.from x long-f e h) (mark-either b.from x long-f f k);
-        grown = joint-grown x y (set m x 1) m' r j (mark-bits m x long-m marks.bits) (simp length-set long-m) (simp length-set (omega (arith, marks.size))) (Joins 1 2 l) (set b.from x 1) begins there (joins-even l x y there);
+        node = λ e h. ⊎_elim (λ (q : e ≡ x). subst (Starts l) (sym q) start-x) (λ (k : Marked b.from e). b.node e k) (mark_either b.from x long-f e h);
+        shown = λ u h. ⊎_elim (λ (q : u ≡ v). (x, mark_new b.from x long-f, point ∙ sym q)) (λ (k : Marked s u). let w = b.shown u k in (w.0, mark_stays b.from x long-f w.0 w.1, w.2)) (mark_either s v long-s u h);
+        hidden = λ e h. ⊎_elim (λ (q : e ≡ x). subst (λ (k : ℕ). Marked (set s v 1) k) (sym (ap (λ (k : ℕ). get_or es k 0) q ∙ point)) (mark_new s v long-s)) (λ (k : Marked b.from e). mark_stays s v long-s (get_or es e 0) (b.hidden e k)) (mark_either b.from x long-f e h);
+        lone = λ e f h k. lone e f (mark_either b.from x long-f e h) (mark_either b.from x long-f f k);
+        grown = joint-grown x y (set m x 1) m' r j (mark-bits m x long-m marks.bits) (simp length-set long-m) (simp length-set (omega (arith, marks.size))) (Joins 1 2 l) (set b.from x 1) begins there (joins_even l x y there);
       };
-      grows = mark-stays s v long-s;
-      sees = mark-new s v long-s;
+      grows = mark_stays s v long-s;
+      sees = mark_new s v long-s;
     }
 
   meets : (s' : List ℕ) → Met v x y s m s' m' → Seen es l v s s' m'
-  meets s' t = by_cases (ℕ_discrete (get_or s v 0) 1) (λ k. subst (λ (z : List ℕ). Seen es l v s z m') (sym (t.old k).0) (seen-old t.to k (t.old k).1)) (λ d. subst (λ (z : List ℕ). Seen es l v s z m') (sym (t.new d).0) (seen-new t.to d (t.new d).1))
+  meets s' t = by_cases (ℕ_discrete (get_or s v 0) 1) (λ k. subst (λ (z : List ℕ). Seen es l v s z m') (sym (t.old k).0) (seen_old t.to k (t.old k).1)) (λ d. subst (λ (z : List ℕ). Seen es l v s z m') (sym (t.new d).0) (seen-new t.to d (t.new d).1))
 
 -- ---- pair by pair
 
@@ -125,7 +125,7 @@ begin-none es l s m a b = record {
     shown = λ v h. absurd (unseen v h);
     hidden = λ e h. absurd (bare e h);
     lone = λ e f h _ _. absurd (bare e h);
-    grown = grown-none (Joins 1 2 l) m;
+    grown = grown_none (Joins 1 2 l) m;
   };
   first = λ j h. absurd (not-suc-le-zero h);
 }
@@ -141,41 +141,41 @@ module _ (es l : List ℕ) (i : ℕ) (c : Cornered es l) (even : i % 2 ≡ 0) (l
   here = omega arith
 
   -- one end of the pair's edge
-  end-met : (h v : ℕ) (s m s' m' : List ℕ) → End h → v < 1024 → get_or es (node_of h (get_or l i 0)) 0 ≡ v → length s ≡ 1024 → Marks 1024 m → Seeding es l s m → Met v (node_of h (get_or l i 0)) (node_of h (get_or l (i + 1) 0)) s m s' m' → Seen es l v s s' m'
-  end-met h v s m s' m' z in-v e size marks b t = meets es l s m v (node_of h (get_or l i 0)) (node_of h (get_or l (i + 1) 0)) m' size marks b (node-starts l es c h i z here) (node-starts l es c h (i + 1) z lt) e in-v (pair-joins l h i z even lt) s' t
+  end_met : (h v : ℕ) (s m s' m' : List ℕ) → End h → v < 1024 → get_or es (node_of h (get_or l i 0)) 0 ≡ v → length s ≡ 1024 → Marks 1024 m → Seeding es l s m → Met v (node_of h (get_or l i 0)) (node_of h (get_or l (i + 1) 0)) s m s' m' → Seen es l v s s' m'
+  end_met h v s m s' m' z in-v e size marks b t = meets es l s m v (node_of h (get_or l i 0)) (node_of h (get_or l (i + 1) 0)) m' size marks b (node-starts l es c h i z here) (node-starts l es c h (i + 1) z lt) e in-v (pair_joins l h i z even lt) s' t
 
   -- a word of the pair's edge starts at one of its ends
-  start_seen : (s : List ℕ) (j : ℕ) → j < length l → keyOf (get_or l i 0) ≡ keyOf (get_or l j 0) → Marked s (keyOf (get_or l i 0) / 65536 % 1024) → Marked s (keyOf (get_or l i 0) % 1024) → Marked s (point_of es (get_or l j 0))
-  start_seen s j h e a b = go (out-end (get_or l j 0))
+  start_seen : (s : List ℕ) (j : ℕ) → j < length l → key_from (get_or l i 0) ≡ key_from (get_or l j 0) → Marked s (key_from (get_or l i 0) / 65536 % 1024) → Marked s (key_from (get_or l i 0) % 1024) → Marked s (point_of es (get_or l j 0))
+  start_seen s j h e a b = go (out_end_lem (get_or l j 0))
     where
-      corner : (k : ℕ) → outEnd (get_or l j 0) ≡ k → point_of es (get_or l j 0) ≡ get_or es (node_of k (get_or l j 0)) 0
+      corner : (k : ℕ) → out_end (get_or l j 0) ≡ k → point_of es (get_or l j 0) ≡ get_or es (node_of k (get_or l j 0)) 0
       corner k q = ap (λ (x : ℕ). get_or es x 0) (step-node (get_or l j 0) ∙ ap (λ (x : ℕ). node_of x (get_or l j 0)) q)
 
-      go : End (outEnd (get_or l j 0)) → Marked s (point_of es (get_or l j 0))
+      go : End (out_end (get_or l j 0)) → Marked s (point_of es (get_or l j 0))
       go (inl q) = subst (λ (p : ℕ). Marked s p) (sym (corner 1 q ∙ (c.low j h ∙ ap (λ (k : ℕ). k / 65536 % 1024) (sym e)))) a
       go (inr q) = subst (λ (p : ℕ). Marked s p) (sym (corner 2 q ∙ (c.high j h ∙ ap (λ (k : ℕ). k % 1024) (sym e)))) b
 
-  pub begin-more : (s m s₁ m₁ s₂ m₂ : List ℕ) → length s ≡ 1024 → Marks 1024 m → length s₁ ≡ 1024 → Marks 1024 m₁ → Beginning es l s m i → Met (keyOf (get_or l i 0) / 65536 % 1024) (node_of 1 (get_or l i 0)) (node_of 1 (get_or l (i + 1) 0)) s m s₁ m₁ → Met (keyOf (get_or l i 0) % 1024) (node_of 2 (get_or l i 0)) (node_of 2 (get_or l (i + 1) 0)) s₁ m₁ s₂ m₂ → Beginning es l s₂ m₂ (i + 2)
-  begin-more s m s₁ m₁ s₂ m₂ size marks size₁ marks₁ b t u = record { seeding = w₂.seeding; first = first }
+  pub begin_more : (s m s₁ m₁ s₂ m₂ : List ℕ) → length s ≡ 1024 → Marks 1024 m → length s₁ ≡ 1024 → Marks 1024 m₁ → Beginning es l s m i → Met (key_from (get_or l i 0) / 65536 % 1024) (node_of 1 (get_or l i 0)) (node_of 1 (get_or l (i + 1) 0)) s m s₁ m₁ → Met (key_from (get_or l i 0) % 1024) (node_of 2 (get_or l i 0)) (node_of 2 (get_or l (i + 1) 0)) s₁ m₁ s₂ m₂ → Beginning es l s₂ m₂ (i + 2)
+  begin_more s m s₁ m₁ s₂ m₂ size marks size₁ marks₁ b t u = record { seeding = w₂.seeding; first = first }
     where
-      w₁ : Seen es l (keyOf (get_or l i 0) / 65536 % 1024) s s₁ m₁
-      w₁ = end-met 1 (keyOf (get_or l i 0) / 65536 % 1024) s m s₁ m₁ (inl refl) (omega arith) (c.low i here) size marks b.seeding t
+      w₁ : Seen es l (key_from (get_or l i 0) / 65536 % 1024) s s₁ m₁
+      w₁ = end_met 1 (key_from (get_or l i 0) / 65536 % 1024) s m s₁ m₁ (inl refl) (omega arith) (c.low i here) size marks b.seeding t
 
-      w₂ : Seen es l (keyOf (get_or l i 0) % 1024) s₁ s₂ m₂
-      w₂ = end-met 2 (keyOf (get_or l i 0) % 1024) s₁ m₁ s₂ m₂ (inr refl) (omega arith) (c.high i here) size₁ marks₁ w₁.seeding u
+      w₂ : Seen es l (key_from (get_or l i 0) % 1024) s₁ s₂ m₂
+      w₂ = end_met 2 (key_from (get_or l i 0) % 1024) s₁ m₁ s₂ m₂ (inr refl) (omega arith) (c.high i here) size₁ marks₁ w₁.seeding u
 
-      seen : (j : ℕ) → j < length l → keyOf (get_or l i 0) ≡ keyOf (get_or l j 0) → Marked s₂ (point_of es (get_or l j 0))
-      seen j h e = start_seen s₂ j h e (w₂.grows (keyOf (get_or l i 0) / 65536 % 1024) w₁.sees) w₂.sees
+      seen : (j : ℕ) → j < length l → key_from (get_or l i 0) ≡ key_from (get_or l j 0) → Marked s₂ (point_of es (get_or l j 0))
+      seen j h e = start_seen s₂ j h e (w₂.grows (key_from (get_or l i 0) / 65536 % 1024) w₁.sees) w₂.sees
 
       second : (j : ℕ) → (j < i → ⊥) → (j ≡ i → ⊥) → j < i + 2 → j ≡ i + 1
       second j a d h = omega arith
 
       first : (j : ℕ) → j < i + 2 → j < length l → Marked s₂ (point_of es (get_or l j 0))
-      first j h k = by_cases (dec_lt j i) (λ g. w₂.grows (point_of es (get_or l j 0)) (w₁.grows (point_of es (get_or l j 0)) (b.first j g k))) (λ g. by_cases (ℕ_discrete j i) (λ q. seen j k (ap (λ (x : ℕ). keyOf (get_or l x 0)) (sym q))) (λ d. seen j k ((c.pairs i even here).1 ∙ ap (λ (x : ℕ). keyOf (get_or l x 0)) (sym (second j g d h)))))
+      first j h k = by_cases (dec_lt j i) (λ g. w₂.grows (point_of es (get_or l j 0)) (w₁.grows (point_of es (get_or l j 0)) (b.first j g k))) (λ g. by_cases (ℕ_discrete j i) (λ q. seen j k (ap (λ (x : ℕ). key_from (get_or l x 0)) (sym q))) (λ d. seen j k ((c.pairs i even here).1 ∙ ap (λ (x : ℕ). key_from (get_or l x 0)) (sym (second j g d h)))))
 
 -- no word is left after the last pair
-pub begin-done : (es l s m : List ℕ) (i : ℕ) → Cornered es l → i % 2 ≡ 0 → length l ≤ i + 1 → Beginning es l s m i → Begun es l m
-begin-done es l s m i c even ge b = record {
+pub begin_done : (es l s m : List ℕ) (i : ℕ) → Cornered es l → i % 2 ≡ 0 → length l ≤ i + 1 → Beginning es l s m i → Begun es l m
+begin_done es l s m i c even ge b = record {
   from = b.seeding.from;
   seeds = record { node = b.seeding.node; first = λ j h. b.seeding.shown (point_of es (get_or l j 0)) (b.first j (past j h) h); lone = b.seeding.lone };
   grown = b.seeding.grown;
@@ -197,8 +197,8 @@ pub cut-none : (es l m : List ℕ) → Cutting es l m 65536 0
 cut-none es l m = record { within = le_refl 65536; found = λ h. absurd (lt_irrefl 65536 h); below = λ j h. absurd (not-suc-le-zero h) }
 
 module _ (es l m : List ℕ) (best i : ℕ) (s : Cutting es l m best i) (h : i < length l) where
-  pub cut-skip : (get_or m (step_of (get_or l i 0)) 0 ≡ 0 → best ≤ get_or es (step_of (get_or l i 0)) 0) → Cutting es l m best (i + 1)
-  cut-skip d = record {
+  pub cut_skip : (get_or m (step_of (get_or l i 0)) 0 ≡ 0 → best ≤ get_or es (step_of (get_or l i 0)) 0) → Cutting es l m best (i + 1)
+  cut_skip d = record {
     within = s.within;
     found = s.found;
     below = below_more (λ (j : ℕ). get_or m (step_of (get_or l j 0)) 0 ≡ 0 → best ≤ get_or es (step_of (get_or l j 0)) 0) i s.below d;
@@ -220,8 +220,8 @@ cut-least es l m best i s h small = record {
 
 -- the same with the step's corner and its point under names of their own
 module _ (es l m : List ℕ) (best i x v : ℕ) (q : x ≡ step_of (get_or l i 0)) (z : v ≡ get_or es x 0) (s : Cutting es l m best i) (h : i < length l) where
-  pub cut-skip-at : (get_or m x 0 ≡ 0 → best ≤ v) → Cutting es l m best (i + 1)
-  cut-skip-at d = cut-skip es l m best i s h (rw (z, q) at d)
+  pub cut_skip_at : (get_or m x 0 ≡ 0 → best ≤ v) → Cutting es l m best (i + 1)
+  cut_skip_at d = cut_skip es l m best i s h (rw (z, q) at d)
 
-  pub cut-take-at : get_or m x 0 ≡ 0 → v < best → Cutting es l m v (i + 1)
-  cut-take-at e lt = rw (z, q) (cut-take es l m best i s h (rw q at e) (rw (z, q) at lt))
+  pub cut-take_at : get_or m x 0 ≡ 0 → v < best → Cutting es l m v (i + 1)
+  cut-take_at e lt = rw (z, q) (cut-take es l m best i s h (rw q at e) (rw (z, q) at lt))

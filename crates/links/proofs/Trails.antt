@@ -10,9 +10,9 @@ use Rattle.reach.specs.Reach.{Reach, start, step}
 use Rattle.words.specs.held.Words.{step_of, next_of}
 use Rattle.reach.specs.held.Marking.{Marked, Marks, zeros, Flooded}
 use Rattle.links.specs.held.Linking.{Nodes, Links, Even, Lone, Crossed, Onward, Walked, Traced, Joins}
-use Rattle.reach.specs.laws.Marks.{zeros-lt, marked-small, mark-new, mark-stays, mark-either, mark-bits}
-use Rattle.reach.specs.laws.Joins.{reach-map}
-use Rattle.links.proofs.Corners.{joins-even}
+use Rattle.reach.specs.laws.Marks.{zeros_lt, marked_small, mark_new, mark_stays, mark_either, mark-bits}
+use Rattle.reach.specs.laws.Joins.{reach_map}
+use Rattle.links.proofs.Corners.{joins_even}
 
 -- of two links the one not come by
 pub onward-back : {x y p : ℕ} → x ≡ p → Onward x y p y
@@ -48,22 +48,22 @@ module _ (out inn m₀ : List ℕ) (to : ℕ) (m : List ℕ) (p c : ℕ) (s : Wa
   inside : c < length m
   inside = omega (arith, s.small, s.marks.size)
 
-  pub walk-falls : (Marked m c → ⊥) → zeros (set m c 1) < zeros m
-  walk-falls d = zeros-lt m c inside (omega (arith, s.marks.bits c))
+  pub walk_falls : (Marked m c → ⊥) → zeros (set m c 1) < zeros m
+  walk_falls d = zeros_lt m c inside (omega (arith, s.marks.bits c))
 
   stays : (e : ℕ) → Marked m e → Marked (set m c 1) e
-  stays = mark-stays m c inside
+  stays = mark_stays m c inside
 
   fresh_at : (e : ℕ) → e ≡ c → Marked (set m c 1) e
-  fresh_at e q = subst (λ (k : ℕ). Marked (set m c 1) k) (sym q) (mark-new m c inside)
+  fresh_at e q = subst (λ (k : ℕ). Marked (set m c 1) k) (sym q) (mark_new m c inside)
 
   module _ (n : ℕ) (a : Nodes out) (b : Nodes inn) (o : Onward (get_or out c 0) (get_or inn c 0) p n) where
     -- the links of c lead back to p, or on to n
     onward : Even (Links out inn) → (f : ℕ) → Links out inn c f → Marked (set m c 1) f ⊎ (f ≡ n)
-    onward even f j = ⊎_elim (λ (q : f ≡ p). inl (subst (λ (k : ℕ). Marked (set m c 1) k) (sym q) (stays p s.here))) (λ (q : f ≡ n). inr q) (o.other (even p c (marked-small 1024 m p s.marks.size s.here) s.link) f j)
+    onward even f j = ⊎_elim (λ (q : f ≡ p). inl (subst (λ (k : ℕ). Marked (set m c 1) k) (sym q) (stays p s.here))) (λ (q : f ≡ n). inr q) (o.other (even p c (marked_small 1024 m p s.marks.size s.here) s.link) f j)
 
     closed_on : Even (Links out inn) → (e f : ℕ) → Marked (set m c 1) e → Links out inn e f → (Marked (set m c 1) f ⊎ Marked m₀ e) ⊎ ((e ≡ c) × (f ≡ n))
-    closed_on even e f h j = ⊎_elim (λ (q : e ≡ c). of_c q) (λ (k : Marked m e). of-old (s.closed even e f k j)) (mark-either m c inside e h)
+    closed_on even e f h j = ⊎_elim (λ (q : e ≡ c). of_c q) (λ (k : Marked m e). of-old (s.closed even e f k j)) (mark_either m c inside e h)
       where
         of_c : e ≡ c → (Marked (set m c 1) f ⊎ Marked m₀ e) ⊎ ((e ≡ c) × (f ≡ n))
         of_c q = ⊎_elim (λ (k : Marked (set m c 1) f). inl (inl k)) (λ (k : f ≡ n). inr (q, k)) (onward even f (subst (λ (x : ℕ). Links out inn x f) q j))
@@ -77,16 +77,16 @@ module _ (out inn m₀ : List ℕ) (to : ℕ) (m : List ℕ) (p c : ℕ) (s : Wa
     walk_more = record {
       marks = record { size = simp length-set s.marks.size; bits = mark-bits m c inside s.marks.bits };
       grows = λ e h. stays e (s.grows e h);
-      sound = λ e h. ⊎_elim (λ (q : e ≡ c). subst (λ (k : ℕ). Reach (Marked m₀) (Links out inn) k) (sym q) (step (s.sound p s.here) s.link)) (λ (k : Marked m e). s.sound e k) (mark-either m c inside e h);
-      here = mark-new m c inside;
+      sound = λ e h. ⊎_elim (λ (q : e ≡ c). subst (λ (k : ℕ). Reach (Marked m₀) (Links out inn) k) (sym q) (step (s.sound p s.here) s.link)) (λ (k : Marked m e). s.sound e k) (mark_either m c inside e h);
+      here = mark_new m c inside;
       link = o.either;
       small = ⊎_elim (λ (q : get_or out c 0 ≡ n). subst (λ (k : ℕ). k < 1024) q (a.small c)) (λ (q : get_or inn c 0 ≡ n). subst (λ (k : ℕ). k < 1024) q (b.small c)) o.either;
       begun = inl (⊎_elim (λ (h : Marked m to). stays to h) (λ (q : c ≡ to). fresh_at to (sym q)) s.begun);
       closed = closed_on;
     }
 
-  pub walk-done : Marked m c → Walked (Links out inn) to m₀ m
-  walk-done k = record {
+  pub walk_done : Marked m c → Walked (Links out inn) to m₀ m
+  walk_done k = record {
     grows = s.grows;
     sound = s.sound;
     begun = ⊎_elim (λ (h : Marked m to). h) (λ (q : c ≡ to). last to (sym q)) s.begun;
@@ -107,17 +107,17 @@ pub record Tracing (L : ℕ → ℕ → Type 0) (m₀ m : List ℕ) (e : ℕ) : 
 pub trace-none : (L : ℕ → ℕ → Type 0) (m : List ℕ) → Tracing L m m 0
 trace-none L m = record { grows = λ p h. h; sound = λ p h. start h; closed = λ even p q h j. inr zero-le }
 
-pub trace-skip : (L : ℕ → ℕ → Type 0) (m₀ m : List ℕ) (e : ℕ) → Tracing L m₀ m e → (get_or m e 0 ≡ 1 → ⊥) → Tracing L m₀ m (e + 1)
-trace-skip L m₀ m e s d = record { grows = s.grows; sound = s.sound; closed = λ even p q h j. ⊎_elim (λ (k : Marked m q). inl k) (λ (le : e ≤ p). inr (above p le h)) (s.closed even p q h j) }
+pub trace_skip : (L : ℕ → ℕ → Type 0) (m₀ m : List ℕ) (e : ℕ) → Tracing L m₀ m e → (get_or m e 0 ≡ 1 → ⊥) → Tracing L m₀ m (e + 1)
+trace_skip L m₀ m e s d = record { grows = s.grows; sound = s.sound; closed = λ even p q h j. ⊎_elim (λ (k : Marked m q). inl k) (λ (le : e ≤ p). inr (above p le h)) (s.closed even p q h j) }
   where
     above : (p : ℕ) → e ≤ p → Marked m p → e + 1 ≤ p
     above p le h = by_cases (ℕ_discrete p e) (λ q. absurd (d (subst (λ (k : ℕ). Marked m k) q h))) (λ n. omega arith)
 
 module _ (out inn m₀ m m₁ m₂ : List ℕ) (e : ℕ) (s : Tracing (Links out inn) m₀ m e) (a : Walked (Links out inn) (get_or out e 0) m m₁) (b : Walked (Links out inn) (get_or inn e 0) m₁ m₂) where
-  pub trace-more : Tracing (Links out inn) m₀ m₂ (e + 1)
-  trace-more = record {
+  pub trace_more : Tracing (Links out inn) m₀ m₂ (e + 1)
+  trace_more = record {
     grows = λ p h. b.grows p (a.grows p (s.grows p h));
-    sound = λ p h. reach-map (λ q k. reach-map s.sound (λ x y j. j) (a.sound q k)) (λ x y j. j) (b.sound p h);
+    sound = λ p h. reach_map (λ q k. reach_map s.sound (λ x y j. j) (a.sound q k)) (λ x y j. j) (b.sound p h);
     closed = λ even p q h j. late even p q j (b.closed even p q h j);
   }
     where
@@ -137,31 +137,31 @@ module _ (out inn m₀ m m₁ m₂ : List ℕ) (e : ℕ) (s : Tracing (Links out
       late even p q j (inl k) = inl k
       late even p q j (inr k) = soon even p q j (a.closed even p q k j)
 
-pub trace-done : (L : ℕ → ℕ → Type 0) (m₀ m : List ℕ) (e : ℕ) → Tracing L m₀ m e → length m ≡ 1024 → 1024 ≤ e → Traced L m₀ m
-trace-done L m₀ m e s z ge = record {
+pub trace_done : (L : ℕ → ℕ → Type 0) (m₀ m : List ℕ) (e : ℕ) → Tracing L m₀ m e → length m ≡ 1024 → 1024 ≤ e → Traced L m₀ m
+trace_done L m₀ m e s z ge = record {
   grows = s.grows;
   sound = s.sound;
   closed = λ even p q h j. ⊎_elim (λ (k : Marked m q). k) (λ (le : e ≤ p). absurd (beyond p le h)) (s.closed even p q h j);
 }
   where
     beyond : (p : ℕ) → e ≤ p → Marked m p → ⊥
-    beyond p le h = omega (arith, marked-small 1024 m p z h)
+    beyond p le h = omega (arith, marked_small 1024 m p z h)
 
 -- ---- from the tables back to the pairs
 module _ (l out inn m₀ m : List ℕ) (z : length m₀ ≡ 1024) (x : Crossed l out inn) (t : Traced (Links out inn) m₀ m) where
-  link-small : (p q : ℕ) → Links out inn p q → q < 1024
-  link-small p q (inl e) = subst (λ (k : ℕ). k < 1024) e (x.outs.small p)
-  link-small p q (inr e) = subst (λ (k : ℕ). k < 1024) e (x.inns.small p)
+  link_small : (p q : ℕ) → Links out inn p q → q < 1024
+  link_small p q (inl e) = subst (λ (k : ℕ). k < 1024) e (x.outs.small p)
+  link_small p q (inr e) = subst (λ (k : ℕ). k < 1024) e (x.inns.small p)
 
   sound : {p : ℕ} → Reach (Marked m₀) (Links out inn) p → Reach (Marked m₀) (Joins 1 2 l) p × (p < 1024)
-  sound (start {p = p} h) = (start h, marked-small 1024 m₀ p z h)
+  sound (start {p = p} h) = (start h, marked_small 1024 m₀ p z h)
   sound (step {p = p} {q = q} r j) =
       let w = sound r in
-      (⊎_elim (λ (e : p ≡ q). subst (λ (k : ℕ). Reach (Marked m₀) (Joins 1 2 l) k) e w.0) (λ (k : Joins 1 2 l p q). step w.0 k) (x.sound p q w.1 j), link-small p q j)
+      (⊎_elim (λ (e : p ≡ q). subst (λ (k : ℕ). Reach (Marked m₀) (Joins 1 2 l) k) e w.0) (λ (k : Joins 1 2 l p q). step w.0 k) (x.sound p q w.1 j), link_small p q j)
 
   module _ (f : Lone step_of l) (g : Lone next_of l) where
     links-even : Even (Links out inn)
-    links-even p q h j = ⊎_elim (λ (e : p ≡ q). subst (λ (k : ℕ). Links out inn q k) (sym e) (subst (λ (k : ℕ). Links out inn k q) e j)) (λ (k : Joins 1 2 l p q). x.whole f g q p (joins-even l p q k)) (x.sound p q h j)
+    links-even p q h j = ⊎_elim (λ (e : p ≡ q). subst (λ (k : ℕ). Links out inn q k) (sym e) (subst (λ (k : ℕ). Links out inn k q) e j)) (λ (k : Joins 1 2 l p q). x.whole f g q p (joins_even l p q k)) (x.sound p q h j)
 
     whole : {p : ℕ} → Reach (Marked m₀) (Joins 1 2 l) p → Marked m p
     whole (start h) = t.grows _ h

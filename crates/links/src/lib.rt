@@ -1,15 +1,15 @@
 // Check 0C: what corners the first corner of each point reaches across the edges that end there.
 
 ghost use Rattle.std.specs.Prelude.{◌≡◌, List, ℕ, ◌+◌, ◌-◌, ◌<◌, ◌≤◌, length, set};
-ghost use Rattle.bits.specs.held.Bits.{marksOf};
-ghost use Rattle.words.specs.held.Words.{step_of, next_of, dirOf, node_of};
+ghost use Rattle.bits.specs.held.Bits.{marks_of};
+ghost use Rattle.words.specs.held.Words.{step_of, next_of, dir_of, node_of};
 ghost use Rattle.reach.specs.held.Marking.{Marked, Flooded, Blank};
 ghost use Rattle.whole.specs.Least.{LeastBelow};
 ghost use Rattle.links.specs.held.Linking.{Joins, Pointed, Cornered, Met, Begun, Cut, Unlinks, Selves, Nodes, Links, Lone, Crossed, Onward, Walked, Traced};
 
 // No marks.
 fn blank() -> [u64; 16]
-    ensures { (length result ≡ 16) × Blank 1024 (marksOf result) }
+    ensures { (length result ≡ 16) × Blank 1024 (marks_of result) }
 {
     [0u64; 16]
 }
@@ -18,7 +18,7 @@ fn blank() -> [u64; 16]
 // the two are joined.
 fn meet(seen: &mut [u64; 16], marks: &mut [u64; 16], v: usize, x: usize, y: usize)
     requires { (length seen.old ≡ 16) × (length marks.old ≡ 16) × (v < 1024) × (x < 1024) × (y < 1024) }
-    ensures { (length seen.new ≡ 16) × (length marks.new ≡ 16) × Met v x y (marksOf seen.old) (marksOf marks.old) (marksOf seen.new) (marksOf marks.new) }
+    ensures { (length seen.new ≡ 16) × (length marks.new ≡ 16) × Met v x y (marks_of seen.old) (marks_of marks.old) (marks_of seen.new) (marks_of marks.new) }
 {
     if !bits::is_marked(seen, v) {
         bits::mark(seen, v);
@@ -30,8 +30,8 @@ fn meet(seen: &mut [u64; 16], marks: &mut [u64; 16], v: usize, x: usize, y: usiz
 // One pass over the pairs of words: marks the first corner that is met at each point, and the corners that the pass finds linked to it.
 // The points are taken from the edge, below 1,024 so that each has its mark whatever the words are: of loaded rings all are below 512.
 fn pass(words: &[u64], marks: &mut [u64; 16])
-    requires { (length marks.old ≡ 16) × Blank 1024 (marksOf marks.old) }
-    ensures { (length marks.new ≡ 16) × ((es : List ℕ) → Cornered es words.now → Begun es words.now (marksOf marks.new)) }
+    requires { (length marks.old ≡ 16) × Blank 1024 (marks_of marks.old) }
+    ensures { (length marks.new ≡ 16) × ((es : List ℕ) → Cornered es words.now → Begun es words.now (marks_of marks.new)) }
 {
     let mut seen = blank();
     let mut i = 0;
@@ -74,7 +74,7 @@ fn selves(t: &mut [u16; 1024])
 // Writes down, for the corner where a word's step starts and for the one where it ends, the corner across its pair, of word w.
 fn across(v: u64, w: u64, out: &mut [u16; 1024], inn: &mut [u16; 1024])
     requires { (length out.old ≡ 1024) × (length inn.old ≡ 1024) }
-    ensures { (out.new ≡ set out.old (step_of v) (node_of (1 + dirOf v) w)) × (inn.new ≡ set inn.old (next_of v) (node_of (3 - (1 + dirOf v)) w)) }
+    ensures { (out.new ≡ set out.old (step_of v) (node_of (1 + dir_of v) w)) × (inn.new ≡ set inn.old (next_of v) (node_of (3 - (1 + dir_of v)) w)) }
 {
     let side = side_of(v);
     out[step_of(v)] = words::node_of(w, side) as u16;
@@ -98,7 +98,7 @@ fn cross(words: &[u64], out: &mut [u16; 1024], inn: &mut [u16; 1024])
 
 // Which of its edge's ends a word's step starts at: 1 the smaller, 2 the larger.
 fn side_of(w: u64) -> u8
-    ensures { (result ≡ 1 + dirOf w) × (result ≤ 2) }
+    ensures { (result ≡ 1 + dir_of w) × (result ≤ 2) }
 {
     if w % 2 == 0 { 1 } else { 2 }
 }
@@ -112,8 +112,8 @@ fn next_of(w: u64) -> usize
 // Marks corner after corner, from each to the one that it was not come from, up to one that has a mark. Each turn takes a corner that had
 // none.
 fn walk(out: &[u16; 1024], inn: &[u16; 1024], marks: &mut [u64; 16], from: usize, to: usize)
-    requires { Nodes out.now × Nodes inn.now × (length marks.old ≡ 16) × Marked (marksOf marks.old) from × Links out.now inn.now from to × (to < 1024) }
-    ensures { (length marks.new ≡ 16) × Walked (Links out.now inn.now) to (marksOf marks.old) (marksOf marks.new) }
+    requires { Nodes out.now × Nodes inn.now × (length marks.old ≡ 16) × Marked (marks_of marks.old) from × Links out.now inn.now from to × (to < 1024) }
+    ensures { (length marks.new ≡ 16) × Walked (Links out.now inn.now) to (marks_of marks.old) (marks_of marks.new) }
 {
     let mut p = from;
     let mut c = to;
@@ -135,7 +135,7 @@ fn onward(x: usize, y: usize, p: usize) -> usize
 // Walks both ways from each marked corner.
 fn walks(out: &[u16; 1024], inn: &[u16; 1024], marks: &mut [u64; 16])
     requires { Nodes out.now × Nodes inn.now × (length marks.old ≡ 16) }
-    ensures { (length marks.new ≡ 16) × Traced (Links out.now inn.now) (marksOf marks.old) (marksOf marks.new) }
+    ensures { (length marks.new ≡ 16) × Traced (Links out.now inn.now) (marks_of marks.old) (marks_of marks.new) }
 {
     let mut e = 0;
     while e < 1024 {
@@ -151,7 +151,7 @@ fn walks(out: &[u16; 1024], inn: &[u16; 1024], marks: &mut [u64; 16])
 // Whatever the numbering, the tables take one turn an entry and one a word, and no corner begins more than two walks or is taken twice.
 fn trace(words: &[u64], marks: &mut [u64; 16])
     requires { length marks.old ≡ 16 }
-    ensures { (length marks.new ≡ 16) × (Lone step_of words.now → Lone next_of words.now → Flooded (Joins 1 2 words.now) (marksOf marks.old) (marksOf marks.new)) }
+    ensures { (length marks.new ≡ 16) × (Lone step_of words.now → Lone next_of words.now → Flooded (Joins 1 2 words.now) (marks_of marks.old) (marks_of marks.new)) }
 {
     let mut out = [0u16; 1024];
     let mut inn = [0u16; 1024];
@@ -164,7 +164,7 @@ fn trace(words: &[u64], marks: &mut [u64; 16])
 // The lowest point with a corner that has no mark, or 65536.
 fn lowest_cut(words: &[u64], entries: &[u16; 1024], marks: &[u64; 16]) -> usize
     requires { Pointed entries.now words.now × (length marks.now ≡ 16) }
-    ensures { LeastBelow (Cut entries.now words.now (marksOf marks.now)) 65536 result }
+    ensures { LeastBelow (Cut entries.now words.now (marks_of marks.now)) 65536 result }
 {
     let mut best: usize = 65536;
     let mut i = 0;

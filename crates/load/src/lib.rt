@@ -11,7 +11,7 @@ ghost use Rattle.std.specs.Prelude.{◌≡◌, ◌+◌, ◌≤◌, length};
 ghost use Rattle.frame.specs.Frame as F;
 ghost use Rattle.building.specs.held.Holds.{Arrays};
 ghost use Rattle.desk.specs.held.Holds.{service, Valid, Did, does};
-ghost use Rattle.load.specs.held.Load.{unchained, withPoints};
+ghost use Rattle.load.specs.held.Load.{unchained, with_points};
 
 pub use points::add_point;
 
@@ -30,7 +30,7 @@ fn clear_chains(table: &mut [u64; 1024], mode: Mode)
 // Accepted begin drops all that was held and starts a load.
 pub fn begin(table: &mut [u64; 1024], room: &mut [u8], d: Desk, tolerance: u16) -> Desk
     requires { (d.at + 33 ≤ length room.old) × (length table.old ≡ 1024) }
-    ensures { (a : Arrays) → a.table ≡ table.old → Valid a d → Did (does (service a d) (F.begin tolerance)) room.old d.at (withPoints a.points table.new a) room.new result }
+    ensures { (a : Arrays) → a.table ≡ table.old → Valid a d → Did (does (service a d) (F.begin tolerance)) room.old d.at (with_points a.points table.new a) room.new result }
 {
     if 1000 < tolerance {
         return desk::refuse(room, d, Refusal::Beyond);

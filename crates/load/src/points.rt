@@ -3,7 +3,7 @@ ghost use Rattle.std.specs.Prelude.{◌≡◌, ◌+◌, ◌≤◌, length};
 ghost use Rattle.frame.specs.Frame as F;
 ghost use Rattle.building.specs.held.Holds.{Arrays};
 ghost use Rattle.desk.specs.held.Holds.{service, Valid, Did, does};
-ghost use Rattle.load.specs.held.Load.{withPoints, Placing, PointRow};
+ghost use Rattle.load.specs.held.Load.{with_points, Placing, PointRow};
 
 use building::Scalars;
 use desk::Desk;
@@ -45,7 +45,7 @@ pub fn add_point(
     z: i64,
 ) -> Desk
     requires { (d.at + 33 ≤ length room.old) × (Placing points.old table.old d) }
-    ensures { (a : Arrays) → a.points ≡ points.old → a.table ≡ table.old → Valid a d → Did (does (service a d) (F.point x y z)) room.old d.at (withPoints points.new table.new a) room.new result }
+    ensures { (a : Arrays) → a.points ≡ points.old → a.table ≡ table.old → Valid a d → Did (does (service a d) (F.point x y z)) room.old d.at (with_points points.new table.new a) room.new result }
 {
     let refusal = of_point(points, table, d, x, y, z);
     if desk::is_accepted(refusal) {

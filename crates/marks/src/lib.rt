@@ -2,7 +2,7 @@
 
 ghost use Rattle.std.specs.Prelude.{◌≡◌};
 ghost use Rattle.space.specs.held.Points.{Known};
-ghost use Rattle.ring.specs.Entries.{repeatedAt};
+ghost use Rattle.ring.specs.Entries.{repeated_at};
 
 fn wide(x: u16) -> usize
     ensures { result ≡ x }
@@ -14,7 +14,7 @@ fn wide(x: u16) -> usize
 // entry's index. Point x is bit x % 64 of word x / 64. Each entry is read once, so a ring of n entries is read n - 1 times at most.
 pub fn first_repeated(ring: &[u16]) -> usize
     requires { Known ring.now }
-    ensures { result ≡ repeatedAt ring.now }
+    ensures { result ≡ repeated_at ring.now }
 {
     let n = ring.len();
     let mut marks: [u64; 8] = [0; 8];

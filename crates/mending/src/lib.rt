@@ -2,11 +2,11 @@
 ghost use Rattle.std.specs.Prelude.{◌≡◌, false, ◌||◌, length};
 ghost use Rattle.whole.specs.Lists.{front};
 ghost use Rattle.space.specs.held.Points.{Known};
-ghost use Rattle.ring.specs.Entries.{isUnclosed};
-ghost use Rattle.ring.specs.held.Rings.{ringAt, polygonOf};
+ghost use Rattle.ring.specs.Entries.{is_unclosed};
+ghost use Rattle.ring.specs.held.Rings.{ring_at, polygon_of};
 ghost use Rattle.holes.specs.held.Rings.{Ring, Lies};
-ghost use Rattle.polygon.specs.Ring.{isShort};
-ghost use Rattle.building.specs.held.Holds.{isUnmendable};
+ghost use Rattle.polygon.specs.Ring.{is_short};
+ghost use Rattle.building.specs.held.Holds.{is_unmendable_of};
 ghost use Rattle.mending.specs.held.Noted.{Noted};
 
 fn wide(x: u16) -> usize
@@ -37,7 +37,7 @@ fn meets_again(ring: &[u16], marks: &mut [u64; 8]) -> bool
 // Whether ring q fails check 01 or 02, or lists a number that has its mark or that it lists twice; otherwise its numbers are marked.
 fn is_bad(entries: &[u16; 1024], starts: &[u16; 1025], q: usize, marks: &mut [u64; 8]) -> bool
     requires { Ring entries.now starts.now q × (length marks.old ≡ 8) }
-    ensures { Noted (isShort (ringAt entries.now starts.now q) || isUnclosed (ringAt entries.now starts.now q)) marks.old (front (ringAt entries.now starts.now q)) marks.new result }
+    ensures { Noted (is_short (ring_at entries.now starts.now q) || is_unclosed (ring_at entries.now starts.now q)) marks.old (front (ring_at entries.now starts.now q)) marks.new result }
 {
     let from = starts[q] as usize;
     let to = starts[q + 1] as usize;
@@ -56,7 +56,7 @@ fn is_bad(entries: &[u16; 1024], starts: &[u16; 1025], q: usize, marks: &mut [u6
 // The marks are kept from ring to ring, so that each entry is read once.
 pub fn is_unmendable(entries: &[u16; 1024], starts: &[u16; 1025], from: usize, to: usize) -> bool
     requires { Lies entries.now starts.now from to }
-    ensures { result ≡ isUnmendable (polygonOf entries.now starts.now from to) }
+    ensures { result ≡ is_unmendable_of (polygon_of entries.now starts.now from to) }
 {
     let mut marks: [u64; 8] = [0; 8];
     let mut q = from;

@@ -1,12 +1,12 @@
 // Check 0F, where 0E passed: whether a ring stands in another. One corner tells, since all are inside or none is.
 ghost use Rattle.std.specs.Prelude.{◌≡◌, not, ◌+◌, ◌-◌, ◌<◌, ◌≤◌, length};
-ghost use Rattle.whole.specs.Lists.{any, anyTwo};
+ghost use Rattle.whole.specs.Lists.{any, any_two};
 ghost use Rattle.whole.specs.held.Spans.{span};
 ghost use Rattle.space.specs.held.Points.{Coords};
-ghost use Rattle.fan.specs.held.Fan.{spotIn};
+ghost use Rattle.fan.specs.held.Fan.{spot_in};
 ghost use Rattle.rays.specs.held.Seen.{Plane};
-ghost use Rattle.ring.specs.held.Rings.{ringAt};
-ghost use Rattle.holes.specs.held.Rings.{Ring, Rings, Filled, spotsAt};
+ghost use Rattle.ring.specs.held.Rings.{ring_at};
+ghost use Rattle.holes.specs.held.Rings.{Ring, Rings, Filled, spots_at};
 ghost use Rattle.holes.specs.laws.Corners.{stands, nested};
 
 // Whether the first corner of ring p is inside ring q.
@@ -20,10 +20,10 @@ fn stands_in(
     k: usize,
 ) -> bool
     requires coords { Coords points.now }
-    requires ring { (Ring entries.now starts.now p) × (1 ≤ length (ringAt entries.now starts.now p)) }
+    requires ring { (Ring entries.now starts.now p) × (1 ≤ length (ring_at entries.now starts.now p)) }
     requires ring_2 { Ring entries.now starts.now q }
     requires plane { Plane j k }
-    ensures { result ≡ stands (spotIn points.now j k 0) (spotsAt points.now j k entries.now starts.now p) (spotsAt points.now j k entries.now starts.now q) }
+    ensures { result ≡ stands (spot_in points.now j k 0) (spots_at points.now j k entries.now starts.now p) (spots_at points.now j k entries.now starts.now q) }
 {
     let first = starts[p] as usize;
     let corner = entries[first];
@@ -49,7 +49,7 @@ pub fn one_outside(
     requires rings { (Rings entries.now starts.now from to) × (from < to) }
     requires filled { Filled entries.now starts.now from to }
     requires plane { Plane j k }
-    ensures { result ≡ any (λ s. not (stands (spotIn points.now j k 0) s (spotsAt points.now j k entries.now starts.now from))) (span (spotsAt points.now j k entries.now starts.now) (from + 1) (to - (from + 1))) }
+    ensures { result ≡ any (λ s. not (stands (spot_in points.now j k 0) s (spots_at points.now j k entries.now starts.now from))) (span (spots_at points.now j k entries.now starts.now) (from + 1) (to - (from + 1))) }
 {
     let mut q = from + 1;
     while q < to {
@@ -72,10 +72,10 @@ fn two_nested(
     k: usize,
 ) -> bool
     requires coords { Coords points.now }
-    requires ring { (Ring entries.now starts.now p) × (1 ≤ length (ringAt entries.now starts.now p)) }
-    requires ring_2 { (Ring entries.now starts.now q) × (1 ≤ length (ringAt entries.now starts.now q)) }
+    requires ring { (Ring entries.now starts.now p) × (1 ≤ length (ring_at entries.now starts.now p)) }
+    requires ring_2 { (Ring entries.now starts.now q) × (1 ≤ length (ring_at entries.now starts.now q)) }
     requires plane { Plane j k }
-    ensures { result ≡ nested (spotIn points.now j k 0) (spotsAt points.now j k entries.now starts.now p) (spotsAt points.now j k entries.now starts.now q) }
+    ensures { result ≡ nested (spot_in points.now j k 0) (spots_at points.now j k entries.now starts.now p) (spots_at points.now j k entries.now starts.now q) }
 {
     let within = stands_in(points, entries, starts, p, q, j, k);
     let around = stands_in(points, entries, starts, q, p, j, k);
@@ -96,7 +96,7 @@ fn nested_later(
     requires rings { (Rings entries.now starts.now p to) × (p < to) }
     requires filled { Filled entries.now starts.now p to }
     requires plane { Plane j k }
-    ensures { result ≡ any (nested (spotIn points.now j k 0) (spotsAt points.now j k entries.now starts.now p)) (span (spotsAt points.now j k entries.now starts.now) (p + 1) (to - (p + 1))) }
+    ensures { result ≡ any (nested (spot_in points.now j k 0) (spots_at points.now j k entries.now starts.now p)) (span (spots_at points.now j k entries.now starts.now) (p + 1) (to - (p + 1))) }
 {
     let mut q = p + 1;
     while q < to {
@@ -122,7 +122,7 @@ pub fn some_nested(
     requires rings { Rings entries.now starts.now from to }
     requires filled { Filled entries.now starts.now from to }
     requires plane { Plane j k }
-    ensures { result ≡ anyTwo (nested (spotIn points.now j k 0)) (span (spotsAt points.now j k entries.now starts.now) from (to - from)) }
+    ensures { result ≡ any_two (nested (spot_in points.now j k 0)) (span (spots_at points.now j k entries.now starts.now) from (to - from)) }
 {
     let mut p = from;
     while p < to {

@@ -4,10 +4,10 @@ mod corners;
 mod facing;
 
 ghost use Rattle.std.specs.Prelude.{◌≡◌, false, map};
-ghost use Rattle.space.specs.held.Points.{points_of, Coords, asPoint, Near};
-ghost use Rattle.ring.specs.Polygon.{ringsOf};
-ghost use Rattle.ring.specs.held.Rings.{polygonOf};
-ghost use Rattle.holes.specs.Holes.{seen, component, componentOf, is_shared, isMisplaced};
+ghost use Rattle.space.specs.held.Points.{points_of, Coords, as_point, Near};
+ghost use Rattle.ring.specs.Polygon.{rings_of};
+ghost use Rattle.ring.specs.held.Rings.{polygon_of};
+ghost use Rattle.holes.specs.Holes.{seen, component, component_of, is_shared, is_misplaced_of};
 ghost use Rattle.holes.specs.held.Rings.{Lies, Filled, Closings};
 
 use space::{Axis, Place};
@@ -26,9 +26,9 @@ pub fn is_misplaced(
     requires coords { Coords points.now }
     requires lies { Lies entries.now starts.now from to }
     requires filled { (Filled entries.now starts.now from to) × (Closings entries.now starts.now from to) }
-    requires to_value { is_shared (map (seen axis (points_of points.now)) (ringsOf (polygonOf entries.now starts.now from to))) ≡ false }
-    requires near { Near 10160000000000 (asPoint n) }
-    ensures { result ≡ isMisplaced (seen axis (points_of points.now) (polygonOf entries.now starts.now from to).outer) (map (seen axis (points_of points.now)) (polygonOf entries.now starts.now from to).inner) (component axis (asPoint n)) (map (componentOf axis (points_of points.now)) (polygonOf entries.now starts.now from to).inner) }
+    requires to_value { is_shared (map (seen axis (points_of points.now)) (rings_of (polygon_of entries.now starts.now from to))) ≡ false }
+    requires near { Near 10160000000000 (as_point n) }
+    ensures { result ≡ is_misplaced_of (seen axis (points_of points.now) (polygon_of entries.now starts.now from to).outer) (map (seen axis (points_of points.now)) (polygon_of entries.now starts.now from to).inner) (component axis (as_point n)) (map (component_of axis (points_of points.now)) (polygon_of entries.now starts.now from to).inner) }
 {
     let j = rays::first_left(axis);
     let k = rays::second_left(axis);

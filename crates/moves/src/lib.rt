@@ -3,9 +3,9 @@ ghost use Rattle.std.specs.Prelude.{◌≡◌, false, ◌+◌, ◌<◌, ◌≤�
 ghost use Rattle.whole.specs.Lists.{lists};
 ghost use Rattle.space.specs.held.Points.{Coords};
 ghost use Rattle.places.specs.held.Places.{point3};
-ghost use Rattle.places.specs.Points.{isFar};
+ghost use Rattle.places.specs.Points.{is_far_of};
 ghost use Rattle.building.specs.Tables.{moved};
-ghost use Rattle.building.specs.held.Holds.{arrays, heldBuilding, Loaded, Held, Did};
+ghost use Rattle.building.specs.held.Holds.{arrays, held_building, Loaded, Held, Did};
 ghost use Rattle.building.specs.held.Rings.{cut, Stands};
 ghost use Rattle.moves.specs.held.Rings.{Span};
 ghost use Rattle.moves.specs.held.Steps.{Touched, Looked, LookedFrom};
@@ -171,8 +171,8 @@ pub fn move_point(
 ) -> Scalars
     requires held { Held (arrays points.old entries.now starts.now firsts.now stamps.old findings.old parts.old table.now turned.now) s }
     requires n_lt_points { n < s.points }
-    requires z_value { isFar (point3 x y z) ≡ false }
-    ensures did { Did (moved number n (point3 x y z) (heldBuilding (arrays points.old entries.now starts.now firsts.now stamps.old findings.old parts.old table.now turned.now) s)) (arrays points.new entries.now starts.now firsts.now stamps.new findings.new parts.new table.now turned.now) result }
+    requires z_value { is_far_of (point3 x y z) ≡ false }
+    ensures did { Did (moved number n (point3 x y z) (held_building (arrays points.old entries.now starts.now firsts.now stamps.old findings.old parts.old table.now turned.now) s)) (arrays points.new entries.now starts.now firsts.now stamps.new findings.new parts.new table.now turned.now) result }
     ensures move_writes { MoveWrites (arrays points.old entries.now starts.now firsts.now stamps.old findings.old parts.old table.now turned.now) s number n (point3 x y z) points.new stamps.new findings.new parts.new result }
 {
     places::place(points, n, x, y, z);

@@ -1,8 +1,8 @@
 // Edges that follow one another in the plane that is left by dropping an axis.
 ghost use Rattle.std.specs.Prelude.{◌≡◌, ◌+◌, ◌<◌, length, ◌*ℤ◌, ◌+ℤ◌, ◌-ℤ◌};
 ghost use Rattle.whole.specs.held.Small.{Small};
-ghost use Rattle.plane.specs.Plane.{shareMore};
-ghost use Rattle.plane.specs.held.Edges.{asSegment, Ends, edge_at};
+ghost use Rattle.plane.specs.Plane.{share_more_of};
+ghost use Rattle.plane.specs.held.Edges.{as_segment, Ends, edge_at};
 
 use plane::Edge;
 
@@ -23,8 +23,8 @@ fn ahead(p: i64, q: i64, r: i64, s: i64) -> i64
 
 // Whether f, which begins where e ends, shares more with it than that end.
 pub fn share_more(e: Edge, f: Edge) -> bool
-    requires { (Ends (asSegment e)) × (Ends (asSegment f)) }
-    ensures { result ≡ shareMore (asSegment e) (asSegment f) }
+    requires { (Ends (as_segment e)) × (Ends (as_segment f)) }
+    ensures { result ≡ share_more_of (as_segment e) (as_segment f) }
 {
     let au = e.au;
     let av = e.av;
@@ -46,7 +46,7 @@ pub fn share_more(e: Edge, f: Edge) -> bool
 // Edge i of those between places that follow one another.
 pub fn edge_at(us: &[i64], vs: &[i64], i: usize) -> Edge
     requires { (i + 1 < length us.now) × (i + 1 < length vs.now) }
-    ensures { asSegment result ≡ edge_at us.now vs.now i }
+    ensures { as_segment result ≡ edge_at us.now vs.now i }
 {
     let j = i + 1;
     let au = us[i];

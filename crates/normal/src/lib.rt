@@ -1,15 +1,15 @@
 // The normal of a ring, for checks 04 to 06.
 ghost use Rattle.std.specs.Prelude.{◌≡◌, ◌<◌, ◌≤◌, length};
-ghost use Rattle.space.specs.Space.{places, relativeTo, cross, plus};
-ghost use Rattle.space.specs.held.Points.{points_of, Coords, Known, placeAt, asPoint, Near};
+ghost use Rattle.space.specs.Space.{places, relative_to, cross, plus};
+ghost use Rattle.space.specs.held.Points.{points_of, Coords, Known, place_at, as_point, Near};
 ghost use Rattle.normal.specs.Normal.{normal};
 
 use space::Place;
 
 // The cross product of two ways.
 fn cross(a: Place, b: Place) -> Place
-    requires { (Near 200000 (asPoint a)) × (Near 200000 (asPoint b)) }
-    ensures { asPoint result ≡ cross (asPoint a) (asPoint b) }
+    requires { (Near 200000 (as_point a)) × (Near 200000 (as_point b)) }
+    ensures { as_point result ≡ cross (as_point a) (as_point b) }
 {
     let ax = a.x;
     let ay = a.y;
@@ -25,8 +25,8 @@ fn cross(a: Place, b: Place) -> Place
 
 // The sum of two cross products.
 fn plus(p: Place, q: Place) -> Place
-    requires { (Near 80000000000 (asPoint p)) × (Near 80000000000 (asPoint q)) }
-    ensures { asPoint result ≡ plus (asPoint p) (asPoint q) }
+    requires { (Near 80000000000 (as_point p)) × (Near 80000000000 (as_point q)) }
+    ensures { as_point result ≡ plus (as_point p) (as_point q) }
 {
     let px = p.x;
     let py = p.y;
@@ -46,7 +46,7 @@ pub fn normal(points: &[i32; 1536], ring: &[u16]) -> Place
     requires coords { Coords points.now }
     requires known { Known ring.now }
     requires in_bounds { 1 ≤ length ring.now }
-    ensures { asPoint result ≡ normal (places (points_of points.now) ring.now) }
+    ensures { as_point result ≡ normal (places (points_of points.now) ring.now) }
 {
     let mut x: i64 = 0;
     let mut y: i64 = 0;
@@ -74,7 +74,7 @@ pub fn normal(points: &[i32; 1536], ring: &[u16]) -> Place
 fn normal_of_three(points: &[i32; 1536], a: u16, b: u16, c: u16) -> Place
     requires coords { Coords points.now }
     requires a_bound { (a < 512) × (b < 512) × (c < 512) }
-    ensures { asPoint result ≡ cross (relativeTo (placeAt points.now a) (placeAt points.now b)) (relativeTo (placeAt points.now a) (placeAt points.now c)) }
+    ensures { as_point result ≡ cross (relative_to (place_at points.now a) (place_at points.now b)) (relative_to (place_at points.now a) (place_at points.now c)) }
 {
     let p = space::toward(points, a, b);
     let q = space::toward(points, a, c);
@@ -85,7 +85,7 @@ fn normal_of_three(points: &[i32; 1536], a: u16, b: u16, c: u16) -> Place
 fn normal_of_four(points: &[i32; 1536], a: u16, b: u16, c: u16, d: u16) -> Place
     requires coords { Coords points.now }
     requires a_bound { (a < 512) × (b < 512) × (c < 512) × (d < 512) }
-    ensures { asPoint result ≡ plus (cross (relativeTo (placeAt points.now a) (placeAt points.now b)) (relativeTo (placeAt points.now a) (placeAt points.now c))) (cross (relativeTo (placeAt points.now a) (placeAt points.now c)) (relativeTo (placeAt points.now a) (placeAt points.now d))) }
+    ensures { as_point result ≡ plus (cross (relative_to (place_at points.now a) (place_at points.now b)) (relative_to (place_at points.now a) (place_at points.now c))) (cross (relative_to (place_at points.now a) (place_at points.now c)) (relative_to (place_at points.now a) (place_at points.now d))) }
 {
     plus(
         normal_of_three(points, a, b, c),
@@ -98,7 +98,7 @@ pub fn normal_of(points: &[i32; 1536], ring: &[u16]) -> Place
     requires coords { Coords points.now }
     requires known { Known ring.now }
     requires in_bounds { 1 ≤ length ring.now }
-    ensures { asPoint result ≡ normal (places (points_of points.now) ring.now) }
+    ensures { as_point result ≡ normal (places (points_of points.now) ring.now) }
 {
     let m = ring.len();
     if ring::is_closed(ring) {

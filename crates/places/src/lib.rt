@@ -2,7 +2,7 @@
 ghost use Rattle.std.specs.Prelude.{◌≡◌, false, ◌<◌, ltb, length, nat_abs};
 ghost use Rattle.whole.specs.held.Small.{Small};
 ghost use Rattle.places.specs.held.Places.{point3, placed};
-ghost use Rattle.places.specs.Points.{isFar};
+ghost use Rattle.places.specs.Points.{is_far_of};
 
 // Whether a coordinate is beyond its bound.
 fn beyond(x: i64) -> bool
@@ -13,7 +13,7 @@ fn beyond(x: i64) -> bool
 
 // "tolerance or coordinate beyond its bound"
 pub fn is_far(x: i64, y: i64, z: i64) -> bool
-    ensures { result ≡ isFar (point3 x y z) }
+    ensures { result ≡ is_far_of (point3 x y z) }
 {
     beyond(x) | beyond(y) | beyond(z)
 }
@@ -29,7 +29,7 @@ fn narrow(x: i64) -> i32
 // Point n at another place, within the bounds.
 pub fn place(points: &mut [i32; 1536], n: usize, x: i64, y: i64, z: i64)
     requires points_len { (length points.old ≡ 1536) × (n < 512) }
-    requires z_value { isFar (point3 x y z) ≡ false }
+    requires z_value { is_far_of (point3 x y z) ≡ false }
     ensures { points.new ≡ placed points.old n (point3 x y z) }
 {
     let i = 3 * n;

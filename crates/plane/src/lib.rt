@@ -1,7 +1,7 @@
 // The plane that is left by dropping an axis: two edges in it.
 ghost use Rattle.std.specs.Prelude.{◌≡◌, not};
-ghost use Rattle.plane.specs.Plane.{side, sameSign, overlap, share};
-ghost use Rattle.plane.specs.held.Edges.{asSegment, spot, Close, Ends, least, most};
+ghost use Rattle.plane.specs.Plane.{side, same_sign, overlap, share};
+ghost use Rattle.plane.specs.held.Edges.{as_segment, spot, Close, Ends, least, most};
 
 // An edge in the plane that is left, from a to b.
 #[derive(Drop)]
@@ -35,8 +35,8 @@ pub fn side(au: i64, av: i64, bu: i64, bv: i64, cu: i64, cv: i64) -> i64
 
 // Whether f lies wholly on one side of e's line.
 fn one_side(e: Edge, f: Edge) -> bool
-    requires { (Ends (asSegment e)) × (Ends (asSegment f)) }
-    ensures { result ≡ sameSign (side (asSegment e).0 (asSegment e).1 (asSegment f).0) (side (asSegment e).0 (asSegment e).1 (asSegment f).1) }
+    requires { (Ends (as_segment e)) × (Ends (as_segment f)) }
+    ensures { result ≡ same_sign (side (as_segment e).0 (as_segment e).1 (as_segment f).0) (side (as_segment e).0 (as_segment e).1 (as_segment f).1) }
 {
     let au = e.au;
     let av = e.av;
@@ -62,8 +62,8 @@ fn apart(p: i64, q: i64, c: i64, d: i64) -> bool
 
 // Whether two edges share a point; most are told apart by their boxes, before anything is multiplied.
 pub fn share(e: Edge, f: Edge) -> bool
-    requires { (Ends (asSegment e)) × (Ends (asSegment f)) }
-    ensures { result ≡ share (asSegment e) (asSegment f) }
+    requires { (Ends (as_segment e)) × (Ends (as_segment f)) }
+    ensures { result ≡ share (as_segment e) (as_segment f) }
 {
     let au = e.au;
     let av = e.av;

@@ -11,15 +11,15 @@ use Rattle.whole.specs.laws.Places.{tab-length, tab-at, steps-length, steps-at, 
 use Rattle.whole.specs.held.Small.{Small}
 use Rattle.space.specs.declared.Axis.{Axis}
 use Rattle.space.specs.Space.{places}
-use Rattle.plane.specs.Plane.{Spot, dropAxis}
-use Rattle.polygon.specs.Ring.{edgesIn}
-use Rattle.crossing.specs.Crossed.{crossedAt}
+use Rattle.plane.specs.Plane.{Spot, drop_axis}
+use Rattle.polygon.specs.Ring.{edges_in}
+use Rattle.crossing.specs.Crossed.{crossed_at}
 use Rattle.space.specs.held.Points.{points_of, Coords, Known}
 use Rattle.plane.specs.held.Edges.{spot, edge_at}
 use Rattle.crossing.specs.held.Columns.{Spread}
-use Rattle.polygon.specs.held.Columns.{Filled, seenSpots}
+use Rattle.polygon.specs.held.Columns.{Filled, seen_spots}
 use Rattle.space.specs.laws.Sizes.{point_at}
-use Rattle.fan.specs.laws.Planes.{uOf, vOf, drop-is}
+use Rattle.fan.specs.laws.Planes.{u_of, v_of, drop_is}
 use Rattle.extents.specs.laws.Copy.{copy_more}
 
 -- ---- the copy: the first i are there
@@ -28,34 +28,34 @@ pub record Filling (flat : List ℤ) (ring : List ℕ) (k n : ℕ) (room : List 
   pub all : length room ≡ n
   pub each : (j : ℕ) → j < i → get_or room j (pos 0) ≡ get_or flat (3 * get_or ring j 0 + k) (pos 0)
 
-pub filling-start : (flat : List ℤ) (ring : List ℕ) (k : ℕ) (room : List ℤ) → Filling flat ring k (length room) room 0
-filling-start flat ring k room = record { upto = omega arith; all = refl; each = λ j h. absurd (omega arith) }
+pub filling_start : (flat : List ℤ) (ring : List ℕ) (k : ℕ) (room : List ℤ) → Filling flat ring k (length room) room 0
+filling_start flat ring k room = record { upto = omega arith; all = refl; each = λ j h. absurd (omega arith) }
 
-pub filling-more : {flat : List ℤ} {ring : List ℕ} {k n : ℕ} {room : List ℤ} {i : ℕ} → Filling flat ring k n room i → i < length ring → i < length room
+pub filling_more : {flat : List ℤ} {ring : List ℕ} {k n : ℕ} {room : List ℤ} {i : ℕ} → Filling flat ring k n room i → i < length ring → i < length room
     → (x : ℤ) → x ≡ get_or flat (3 * get_or ring i 0 + k) (pos 0) → Filling flat ring k n (set room i x) (i + 1)
-filling-more {flat} {ring} {k} {n} {room} {i} f l h x e =
+filling_more {flat} {ring} {k} {n} {room} {i} f l h x e =
     record {
       upto = omega arith;
       all = length-set room i x ∙ f.all;
       each = copy_more (pos 0) (λ j. get_or flat (3 * get_or ring j 0 + k) (pos 0)) room i h f.each x e;
     }
 
-pub filling-end : {flat : List ℤ} {ring : List ℕ} {k n : ℕ} {room : List ℤ} {i : ℕ} → Filling flat ring k n room i → i ≡ length ring → Filled flat ring k n room
-filling-end f e = record { all = f.all; each = λ j h. f.each j (omega arith) }
+pub filling_end : {flat : List ℤ} {ring : List ℕ} {k n : ℕ} {room : List ℤ} {i : ℕ} → Filling flat ring k n room i → i ≡ length ring → Filled flat ring k n room
+filling_end f e = record { all = f.all; each = λ j h. f.each j (omega arith) }
 
 -- ---- what two copies show
 module _ {flat : List ℤ} {ring : List ℕ} {j k n : ℕ} {us vs : List ℤ} (h : Coords flat) (few : length ring ≤ n) (some : 1 ≤ length ring) (p : Filled flat ring j n us) (q : Filled flat ring k n vs) where
-  pub spread-is : Spread us vs (length ring - 1)
-  spread-is =
+  pub spread_is : Spread us vs (length ring - 1)
+  spread_is =
       record {
-        room-u = omega (arith, p.all);
-        room-v = omega (arith, q.all);
-        close-u = λ i l. subst (λ (z : ℤ). Small 100000 z) (sym (p.each i (omega arith))) (h.small (3 * get_or ring i 0 + j));
-        close-v = λ i l. subst (λ (z : ℤ). Small 100000 z) (sym (q.each i (omega arith))) (h.small (3 * get_or ring i 0 + k));
+        room_u = omega (arith, p.all);
+        room_v = omega (arith, q.all);
+        close_u = λ i l. subst (λ (z : ℤ). Small 100000 z) (sym (p.each i (omega arith))) (h.small (3 * get_or ring i 0 + j));
+        close_v = λ i l. subst (λ (z : ℤ). Small 100000 z) (sym (q.each i (omega arith))) (h.small (3 * get_or ring i 0 + k));
       }
 
   spots : List Spot
-  spots = seenSpots flat ring j k
+  spots = seen_spots flat ring j k
 
   nowhere : Spot
   nowhere = spot (pos 0) (pos 0)
@@ -79,19 +79,19 @@ module _ {flat : List ℤ} {ring : List ℕ} {j k n : ℕ} {us vs : List ℤ} (h
           tab-at (edge_at us vs) (length ring - 1) i (nowhere, nowhere) m
           ∙ sym (steps-at spots i (nowhere, nowhere) nowhere (omega (arith, spots-length)) ∙ (λ t. (spot_is i (omega arith) t, spot_is (i + 1) (omega arith) t)))
 
-  pub crossed-is : crossedAt (tab (edge_at us vs) (length ring - 1)) ≡ crossedAt (steps (seenSpots flat ring j k))
+  pub crossed_is : crossed_at (tab (edge_at us vs) (length ring - 1)) ≡ crossed_at (steps (seen_spots flat ring j k))
   unfolding spots
-  crossed-is = ap crossedAt edges_are
+  crossed_is = ap crossed_at edges_are
 
 -- ---- the plane left by dropping an axis
-pub seen-is : {flat : List ℤ} → Coords flat → (axis : Axis) (ring : List ℕ) → ((i : ℕ) → i < length ring → get_or ring i 0 < 512)
-    → seenSpots flat ring (uOf axis) (vOf axis) ≡ map (dropAxis axis) (places (points_of flat) ring)
+pub seen_is : {flat : List ℤ} → Coords flat → (axis : Axis) (ring : List ℕ) → ((i : ℕ) → i < length ring → get_or ring i 0 < 512)
+    → seen_spots flat ring (u_of axis) (v_of axis) ≡ map (drop_axis axis) (places (points_of flat) ring)
 unfolding places
-seen-is h axis [] k = refl
-seen-is {flat} h axis (p ∷ ring) k =
-    ap₂ (λ (s : Spot) (l : List Spot). s ∷ l) (drop-is axis flat p ∙ ap (dropAxis axis) (sym (point_at h p (k 0 (omega arith))))) (seen-is h axis ring (λ i l. k (suc i) (omega arith)))
+seen_is h axis [] k = refl
+seen_is {flat} h axis (p ∷ ring) k =
+    ap₂ (λ (s : Spot) (l : List Spot). s ∷ l) (drop_is axis flat p ∙ ap (drop_axis axis) (sym (point_at h p (k 0 (omega arith))))) (seen_is h axis ring (λ i l. k (suc i) (omega arith)))
 
-pub in-plane : {flat : List ℤ} {ring : List ℕ} → Coords flat → Known ring → (axis : Axis)
-    → crossedAt (steps (seenSpots flat ring (uOf axis) (vOf axis))) ≡ crossedAt (edgesIn axis (places (points_of flat) ring))
-unfolding edgesIn
-in-plane {flat} {ring} h k axis = ap (λ (l : List Spot). crossedAt (steps l)) (seen-is h axis ring k.each)
+pub in_plane : {flat : List ℤ} {ring : List ℕ} → Coords flat → Known ring → (axis : Axis)
+    → crossed_at (steps (seen_spots flat ring (u_of axis) (v_of axis))) ≡ crossed_at (edges_in axis (places (points_of flat) ring))
+unfolding edges_in
+in_plane {flat} {ring} h k axis = ap (λ (l : List Spot). crossed_at (steps l)) (seen_is h axis ring k.each)

@@ -8,116 +8,116 @@ use borrow.Author.Tests.{lt-ltb, le-ltb}
 use lib.ListN.{length}
 use Rattle.whole.specs.All.{none, more}
 use Rattle.whole.specs.Lists.{given, first}
-use Rattle.whole.specs.laws.First.{rows, first-is, first-none, first-given, first_past}
+use Rattle.whole.specs.laws.First.{rows, first_is, first-none, first_given, first_past}
 use Rattle.polygon.specs.declared.Finding.{Finding}
 use Rattle.polygon.specs.declared.Finding.TheVariants.{Sound, Short, Unclosed, Repeated, NoNormal, Crossed, Uneven}
 use Rattle.space.specs.Space.{Point, places}
-use Rattle.plane.specs.Plane.{largestAxis, Segment}
-use Rattle.polygon.specs.Ring.{ringFinding, finding, findingNumber, findingPosition, isShort, edgesIn}
-use Rattle.polygon.specs.held.Findings.{keptFinding}
-use Rattle.ring.specs.Entries.{isUnclosed, isRepeated, repeatedAt}
-use Rattle.ring.specs.laws.Repeated.{repeated-is}
-use Rattle.normal.specs.Normal.{normal, isZero}
-use Rattle.crossing.specs.Crossed.{isCrossed, crossedAt}
-use Rattle.crossing.specs.laws.Least.{crossed-is}
-use Rattle.even.specs.Even.{isUneven, unevenAt}
-use Rattle.even.specs.laws.Least.{uneven-is}
-use Rattle.polygon.specs.laws.Checks.{ringChecks, ring-rows}
-use Rattle.polygon.specs.laws.Rows.{finding-taken, finding-left, kept-sound, kept-fault}
+use Rattle.plane.specs.Plane.{largest_axis_of, Segment}
+use Rattle.polygon.specs.Ring.{ring_finding, finding, finding_number_of, finding_position_of, is_short, edges_in}
+use Rattle.polygon.specs.held.Findings.{kept_finding}
+use Rattle.ring.specs.Entries.{is_unclosed, is_repeated, repeated_at}
+use Rattle.ring.specs.laws.Repeated.{repeated_is}
+use Rattle.normal.specs.Normal.{normal, is_zero_of}
+use Rattle.crossing.specs.Crossed.{is_crossed, crossed_at}
+use Rattle.crossing.specs.laws.Least.{crossed_is}
+use Rattle.even.specs.Even.{is_uneven, uneven_at}
+use Rattle.even.specs.laws.Least.{uneven_is}
+use Rattle.polygon.specs.laws.Checks.{ring_checks, ring_rows_lem}
+use Rattle.polygon.specs.laws.Rows.{finding_taken, finding-left, kept_sound, kept_fault}
 use Rattle.polygon.specs.laws.Position.{places-length, edges-length}
-use Rattle.polygon.specs.laws.Triangle.{triangle-single, triangle-uncrossed}
+use Rattle.polygon.specs.laws.Triangle.{triangle_single, triangle_uncrossed}
 
 module _ (points : List Point) (ring : List ℕ) where
   abbrev n : Point
   n = normal (places points ring)
 
   abbrev es : List Segment
-  es = edgesIn (largestAxis n) (places points ring)
+  es = edges_in (largest_axis_of n) (places points ring)
 
   -- the first three rows
   abbrev short : Bool × Finding
-  short = (isShort ring, Short)
+  short = (is_short ring, Short)
 
   abbrev unclosed : Bool × Finding
-  unclosed = (isUnclosed ring, Unclosed)
+  unclosed = (is_unclosed ring, Unclosed)
 
   abbrev repeated : Bool × Finding
-  repeated = (isRepeated ring, Repeated (repeatedAt ring))
+  repeated = (is_repeated ring, Repeated (repeated_at ring))
 
-  by_rows : ringFinding points ring ≡ first Sound (rows (ringChecks points ring))
-  unfolding ringFinding
-  by_rows = ap (first Sound) (ring-rows points ring)
+  by_rows : ring_finding points ring ≡ first Sound (rows (ring_checks points ring))
+  unfolding ring_finding
+  by_rows = ap (first Sound) (ring_rows_lem points ring)
 
-  pub found-short : length ring < 4 → 1 ≡ keptFinding (ringFinding points ring)
-  unfolding ringChecks isShort keptFinding findingNumber findingPosition
-  found-short h = ap keptFinding (sym (by_rows ∙ first-is Sound [] (isShort ring) Short _ none (lt-ltb (length ring) 4 h)))
+  pub found_short : length ring < 4 → 1 ≡ kept_finding (ring_finding points ring)
+  unfolding ring_checks is_short kept_finding finding_number_of finding_position_of
+  found_short h = ap kept_finding (sym (by_rows ∙ first_is Sound [] (is_short ring) Short _ none (lt-ltb (length ring) 4 h)))
 
   module _ (long : 4 ≤ length ring) where
-    one : isShort ring ≡ false
-    unfolding isShort
+    one : is_short ring ≡ false
+    unfolding is_short
     one = le-ltb (length ring) 4 long
 
-    pub found-unclosed : isUnclosed ring ≡ true → 2 ≡ keptFinding (ringFinding points ring)
-    unfolding ringChecks keptFinding findingNumber findingPosition
-    found-unclosed h = ap keptFinding (sym (by_rows ∙ first-is Sound (short ∷ []) (isUnclosed ring) Unclosed _ (more one none) h))
+    pub found-unclosed : is_unclosed ring ≡ true → 2 ≡ kept_finding (ring_finding points ring)
+    unfolding ring_checks kept_finding finding_number_of finding_position_of
+    found-unclosed h = ap kept_finding (sym (by_rows ∙ first_is Sound (short ∷ []) (is_unclosed ring) Unclosed _ (more one none) h))
 
-    module _ (two : isUnclosed ring ≡ false) where
+    module _ (two : is_unclosed ring ≡ false) where
       -- 03, by where it is met
-      pub found-repeated : {i : ℕ} → i ≡ repeatedAt ring → i < length ring - 1 → 16 * i + 3 ≡ keptFinding (ringFinding points ring)
-      unfolding ringChecks keptFinding findingNumber findingPosition
+      pub found-repeated : {i : ℕ} → i ≡ repeated_at ring → i < length ring - 1 → 16 * i + 3 ≡ kept_finding (ring_finding points ring)
+      unfolding ring_checks kept_finding finding_number_of finding_position_of
       found-repeated {i} e h =
-          ap (λ (i : ℕ). keptFinding (Repeated i)) e
-          ∙ ap keptFinding (sym (by_rows ∙ first-is Sound (short ∷ unclosed ∷ []) (isRepeated ring) (Repeated (repeatedAt ring)) _ (more one (more two none)) (repeated-is ring ∙ lt-ltb (repeatedAt ring + 1) (length ring) (subst (λ (n : ℕ). n + 1 < length ring) e (omega arith)))))
+          ap (λ (i : ℕ). kept_finding (Repeated i)) e
+          ∙ ap kept_finding (sym (by_rows ∙ first_is Sound (short ∷ unclosed ∷ []) (is_repeated ring) (Repeated (repeated_at ring)) _ (more one (more two none)) (repeated_is ring ∙ lt-ltb (repeated_at ring + 1) (length ring) (subst (λ (n : ℕ). n + 1 < length ring) e (omega arith)))))
 
-      module _ (three : isRepeated ring ≡ false) where
-        pub found-no-normal : isZero n ≡ true → 4 ≡ keptFinding (ringFinding points ring)
-        unfolding ringChecks keptFinding findingNumber findingPosition
-        found-no-normal h = ap keptFinding (sym (by_rows ∙ first-is Sound (short ∷ unclosed ∷ repeated ∷ []) (isZero n) NoNormal _ (more one (more two (more three none))) h))
+      module _ (three : is_repeated ring ≡ false) where
+        pub found-no-normal : is_zero_of n ≡ true → 4 ≡ kept_finding (ring_finding points ring)
+        unfolding ring_checks kept_finding finding_number_of finding_position_of
+        found-no-normal h = ap kept_finding (sym (by_rows ∙ first_is Sound (short ∷ unclosed ∷ repeated ∷ []) (is_zero_of n) NoNormal _ (more one (more two (more three none))) h))
 
-        module _ (four : isZero n ≡ false) where
-          pub found-crossed : {i : ℕ} → i ≡ crossedAt es → i < length ring - 1 → 16 * i + 5 ≡ keptFinding (ringFinding points ring)
-          unfolding ringChecks keptFinding findingNumber findingPosition
+        module _ (four : is_zero_of n ≡ false) where
+          pub found-crossed : {i : ℕ} → i ≡ crossed_at es → i < length ring - 1 → 16 * i + 5 ≡ kept_finding (ring_finding points ring)
+          unfolding ring_checks kept_finding finding_number_of finding_position_of
           found-crossed {i} e h =
-              ap (λ (i : ℕ). keptFinding (Crossed i)) e
-              ∙ ap keptFinding (sym (by_rows ∙ first-is Sound (short ∷ unclosed ∷ repeated ∷ (isZero n, NoNormal) ∷ []) (isCrossed es) (Crossed (crossedAt es)) [] (more one (more two (more three (more four none)))) (crossed-is es ∙ lt-ltb (crossedAt es) (length es) (subst (λ (j : ℕ). j < length es) e (omega (arith, edges-length points ring))))))
+              ap (λ (i : ℕ). kept_finding (Crossed i)) e
+              ∙ ap kept_finding (sym (by_rows ∙ first_is Sound (short ∷ unclosed ∷ repeated ∷ (is_zero_of n, NoNormal) ∷ []) (is_crossed es) (Crossed (crossed_at es)) [] (more one (more two (more three (more four none)))) (crossed_is es ∙ lt-ltb (crossed_at es) (length es) (subst (λ (j : ℕ). j < length es) e (omega (arith, edges-length points ring))))))
 
-          pub found_none : isCrossed es ≡ false → 0 ≡ keptFinding (ringFinding points ring)
-          unfolding ringChecks keptFinding findingNumber findingPosition
-          found_none five = ap keptFinding (sym (by_rows ∙ first-none Sound (ringChecks points ring) (more one (more two (more three (more four (more five none)))))))
+          pub found_none : is_crossed es ≡ false → 0 ≡ kept_finding (ring_finding points ring)
+          unfolding ring_checks kept_finding finding_number_of finding_position_of
+          found_none five = ap kept_finding (sym (by_rows ∙ first-none Sound (ring_checks points ring) (more one (more two (more three (more four (more five none)))))))
 
       -- three corners whose normal is not 0
-      pub found-triangle : length ring ≡ 4 → isZero n ≡ false → 0 ≡ keptFinding (ringFinding points ring)
-      found-triangle h e = found_none (triangle-single points ring h two e) e (triangle-uncrossed points ring h two e)
+      pub found-triangle : length ring ≡ 4 → is_zero_of n ≡ false → 0 ≡ kept_finding (ring_finding points ring)
+      found-triangle h e = found_none (triangle_single points ring h two e) e (triangle_uncrossed points ring h two e)
 
   -- ---- then 06
   module _ (tolerance : ℕ) where
     -- what is told by 01 to 05 is the finding
-    pub found_early : {k : ℕ} → k ≡ keptFinding (ringFinding points ring) → (k ≡ 0 → ⊥) → k ≡ keptFinding (finding tolerance points ring)
-    found_early e h = e ∙ ap keptFinding (sym (finding-taken tolerance points ring (kept-fault _ (λ z. h (e ∙ z)))))
+    pub found_early : {k : ℕ} → k ≡ kept_finding (ring_finding points ring) → (k ≡ 0 → ⊥) → k ≡ kept_finding (finding tolerance points ring)
+    found_early e h = e ∙ ap kept_finding (sym (finding_taken tolerance points ring (kept_fault _ (λ z. h (e ∙ z)))))
 
-    module _ {k : ℕ} (e : k ≡ keptFinding (ringFinding points ring)) (h : k ≡ 0) where
-      passed : finding tolerance points ring ≡ first Sound (given (isUneven tolerance n (places points ring)) (Uneven (unevenAt tolerance n (places points ring))) ∷ [])
-      passed = finding-left tolerance points ring (kept-sound (ringFinding points ring) (sym e ∙ h))
+    module _ {k : ℕ} (e : k ≡ kept_finding (ring_finding points ring)) (h : k ≡ 0) where
+      passed : finding tolerance points ring ≡ first Sound (given (is_uneven tolerance n (places points ring)) (Uneven (uneven_at tolerance n (places points ring))) ∷ [])
+      passed = finding-left tolerance points ring (kept_sound (ring_finding points ring) (sym e ∙ h))
 
-      pub found-uneven : {i : ℕ} → i ≡ unevenAt tolerance n (places points ring) → i < length ring → 16 * i + 6 ≡ keptFinding (finding tolerance points ring)
-      unfolding keptFinding findingNumber findingPosition
-      found-uneven {i} f l =
-          let k = unevenAt tolerance n (places points ring) in
-          ap (λ (i : ℕ). keptFinding (Uneven i)) f
-          ∙ ap keptFinding (sym (passed ∙ first-given Sound (isUneven tolerance n (places points ring)) (Uneven k) [] (uneven-is tolerance n (places points ring) ∙ lt-ltb k (length (places points ring)) (subst (λ (j : ℕ). j < length (places points ring)) f (omega (arith, places-length points ring))))))
+      pub found_uneven : {i : ℕ} → i ≡ uneven_at tolerance n (places points ring) → i < length ring → 16 * i + 6 ≡ kept_finding (finding tolerance points ring)
+      unfolding kept_finding finding_number_of finding_position_of
+      found_uneven {i} f l =
+          let k = uneven_at tolerance n (places points ring) in
+          ap (λ (i : ℕ). kept_finding (Uneven i)) f
+          ∙ ap kept_finding (sym (passed ∙ first_given Sound (is_uneven tolerance n (places points ring)) (Uneven k) [] (uneven_is tolerance n (places points ring) ∙ lt-ltb k (length (places points ring)) (subst (λ (j : ℕ). j < length (places points ring)) f (omega (arith, places-length points ring))))))
 
-      pub found-sound : isUneven tolerance n (places points ring) ≡ false → 0 ≡ keptFinding (finding tolerance points ring)
-      unfolding first keptFinding findingNumber findingPosition
-      found-sound f = ap keptFinding (sym (passed ∙ first_past Sound _ _ [] f))
+      pub found-sound : is_uneven tolerance n (places points ring) ≡ false → 0 ≡ kept_finding (finding tolerance points ring)
+      unfolding first kept_finding finding_number_of finding_position_of
+      found-sound f = ap kept_finding (sym (passed ∙ first_past Sound _ _ [] f))
 
   -- ---- a check that is met nowhere passes
-  pub single-is : {i : ℕ} → i ≡ repeatedAt ring → length ring - 1 ≤ i → isRepeated ring ≡ false
-  single-is e h = repeated-is ring ∙ le-ltb (repeatedAt ring + 1) (length ring) (subst (λ (n : ℕ). length ring ≤ n + 1) e (omega arith))
+  pub single_is : {i : ℕ} → i ≡ repeated_at ring → length ring - 1 ≤ i → is_repeated ring ≡ false
+  single_is e h = repeated_is ring ∙ le-ltb (repeated_at ring + 1) (length ring) (subst (λ (n : ℕ). length ring ≤ n + 1) e (omega arith))
 
-  pub uncrossed-is : {i : ℕ} → i ≡ crossedAt es → length ring - 1 ≤ i → isCrossed es ≡ false
-  uncrossed-is {i} e h = crossed-is es ∙ le-ltb (crossedAt es) (length es) (subst (λ (j : ℕ). length es ≤ j) e (omega (arith, edges-length points ring)))
+  pub uncrossed_is : {i : ℕ} → i ≡ crossed_at es → length ring - 1 ≤ i → is_crossed es ≡ false
+  uncrossed_is {i} e h = crossed_is es ∙ le-ltb (crossed_at es) (length es) (subst (λ (j : ℕ). length es ≤ j) e (omega (arith, edges-length points ring)))
 
-  pub even_is : (tolerance : ℕ) {i : ℕ} → i ≡ unevenAt tolerance n (places points ring) → length ring ≤ i → isUneven tolerance n (places points ring) ≡ false
+  pub even_is : (tolerance : ℕ) {i : ℕ} → i ≡ uneven_at tolerance n (places points ring) → length ring ≤ i → is_uneven tolerance n (places points ring) ≡ false
   even_is tolerance {i} e h =
-      let k = unevenAt tolerance n (places points ring) in
-      uneven-is tolerance n (places points ring) ∙ le-ltb k (length (places points ring)) (subst (λ (j : ℕ). length (places points ring) ≤ j) e (omega (arith, places-length points ring)))
+      let k = uneven_at tolerance n (places points ring) in
+      uneven_is tolerance n (places points ring) ∙ le-ltb k (length (places points ring)) (subst (λ (j : ℕ). length (places points ring) ≤ j) e (omega (arith, places-length points ring)))

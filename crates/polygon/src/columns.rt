@@ -1,11 +1,11 @@
 // Check 05 and where it is met: a ring's places in two columns, those of the plane left by dropping an axis.
 ghost use Rattle.std.specs.Prelude.{◌≡◌, ◌≤◌, length};
-ghost use Rattle.crossing.specs.Crossed.{crossedAt};
-ghost use Rattle.polygon.specs.Ring.{edgesIn};
+ghost use Rattle.crossing.specs.Crossed.{crossed_at};
+ghost use Rattle.polygon.specs.Ring.{edges_in};
 ghost use Rattle.whole.specs.Lists.{steps};
 ghost use Rattle.space.specs.Space.{places};
 ghost use Rattle.space.specs.held.Points.{points_of, Coords, Known};
-ghost use Rattle.polygon.specs.held.Columns.{Filled, seenSpots};
+ghost use Rattle.polygon.specs.held.Columns.{Filled, seen_spots};
 
 use space::Axis;
 
@@ -29,7 +29,7 @@ fn crossed_few(points: &[i32; 1536], ring: &[u16], j: usize, k: usize) -> usize
     requires coords { Coords points.now }
     requires known { Known ring.now }
     requires in_bounds { (1 ≤ length ring.now) × (length ring.now ≤ 8) × (j ≤ 2) × (k ≤ 2) }
-    ensures { result ≡ crossedAt (steps (seenSpots points.now ring.now j k)) }
+    ensures { result ≡ crossed_at (steps (seen_spots points.now ring.now j k)) }
 {
     let mut us: [i64; 8] = [0; 8];
     let mut vs: [i64; 8] = [0; 8];
@@ -43,7 +43,7 @@ fn crossed_many(points: &[i32; 1536], ring: &[u16], j: usize, k: usize) -> usize
     requires coords { Coords points.now }
     requires known { Known ring.now }
     requires in_bounds { (2 ≤ length ring.now) × (length ring.now ≤ 128) × (j ≤ 2) × (k ≤ 2) }
-    ensures { result ≡ crossedAt (steps (seenSpots points.now ring.now j k)) }
+    ensures { result ≡ crossed_at (steps (seen_spots points.now ring.now j k)) }
 {
     let mut us: [i64; 128] = [0; 128];
     let mut vs: [i64; 128] = [0; 128];
@@ -57,7 +57,7 @@ fn crossed_in(points: &[i32; 1536], ring: &[u16], j: usize, k: usize) -> usize
     requires coords { Coords points.now }
     requires known { Known ring.now }
     requires in_bounds { (1 ≤ length ring.now) × (j ≤ 2) × (k ≤ 2) }
-    ensures { result ≡ crossedAt (steps (seenSpots points.now ring.now j k)) }
+    ensures { result ≡ crossed_at (steps (seen_spots points.now ring.now j k)) }
 {
     if ring.len() <= 8 {
         return crossed_few(points, ring, j, k);
@@ -70,7 +70,7 @@ pub fn first_crossed(points: &[i32; 1536], ring: &[u16], axis: Axis) -> usize
     requires coords { Coords points.now }
     requires known { Known ring.now }
     requires in_bounds { 1 ≤ length ring.now }
-    ensures { result ≡ crossedAt (edgesIn axis (places (points_of points.now) ring.now)) }
+    ensures { result ≡ crossed_at (edges_in axis (places (points_of points.now) ring.now)) }
 {
     match axis {
         Axis::X => crossed_in(points, ring, 1, 2),

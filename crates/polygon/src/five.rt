@@ -1,22 +1,22 @@
 // What a ring shows by itself: the first of checks 01 to 05 that fails, with its position, and its part of the six-volume.
 ghost use Rattle.std.specs.Prelude.{◌≡◌, ◌+◌, ◌*◌, ◌<◌, ◌≤◌, length, false};
 ghost use Rattle.space.specs.Space.{places};
-ghost use Rattle.space.specs.held.Points.{points_of, Coords, Known, asPoint, Near};
-ghost use Rattle.ring.specs.Entries.{isUnclosed};
-ghost use Rattle.normal.specs.Normal.{normal, isZero};
-ghost use Rattle.crossing.specs.Crossed.{crossedAt};
-ghost use Rattle.plane.specs.Plane.{largestAxis};
+ghost use Rattle.space.specs.held.Points.{points_of, Coords, Known, as_point, Near};
+ghost use Rattle.ring.specs.Entries.{is_unclosed};
+ghost use Rattle.normal.specs.Normal.{normal, is_zero_of};
+ghost use Rattle.crossing.specs.Crossed.{crossed_at};
+ghost use Rattle.plane.specs.Plane.{largest_axis_of};
 ghost use Rattle.volume.specs.Part.{part};
-ghost use Rattle.polygon.specs.Ring.{edgesIn, ringFinding};
-ghost use Rattle.polygon.specs.held.Findings.{keptFinding};
+ghost use Rattle.polygon.specs.Ring.{edges_in, ring_finding};
+ghost use Rattle.polygon.specs.held.Findings.{kept_finding};
 
 use crate::{Look, columns};
 use space::Place;
 
 // 04: "N is zero in all three components"
 fn is_zero(n: Place) -> bool
-    requires { Near 10160000000000 (asPoint n) }
-    ensures { result ≡ isZero (asPoint n) }
+    requires { Near 10160000000000 (as_point n) }
+    ensures { result ≡ is_zero_of (as_point n) }
 {
     let x = n.x;
     let y = n.y;
@@ -36,9 +36,9 @@ pub fn kept_at(number: u16, at: usize) -> u16
 fn third_to_fifth(points: &[i32; 1536], ring: &[u16], n: Place) -> u16
     requires coords { Coords points.now }
     requires known { Known ring.now }
-    requires in_bounds { (4 ≤ length ring.now) × (isUnclosed ring.now ≡ false) }
-    requires n_value { asPoint n ≡ normal (places (points_of points.now) ring.now) }
-    ensures { result ≡ keptFinding (ringFinding (points_of points.now) ring.now) }
+    requires in_bounds { (4 ≤ length ring.now) × (is_unclosed ring.now ≡ false) }
+    requires n_value { as_point n ≡ normal (places (points_of points.now) ring.now) }
+    ensures { result ≡ kept_finding (ring_finding (points_of points.now) ring.now) }
 {
     let edges = ring.len() - 1;
     let repeated = marks::first_repeated(ring);
@@ -59,9 +59,9 @@ fn third_to_fifth(points: &[i32; 1536], ring: &[u16], n: Place) -> u16
 fn fan_first(points: &[i32; 1536], ring: &[u16], n: Place) -> u16
     requires coords { Coords points.now }
     requires known { Known ring.now }
-    requires in_bounds { (4 ≤ length ring.now) × (isUnclosed ring.now ≡ false) }
-    requires n_value { asPoint n ≡ normal (places (points_of points.now) ring.now) }
-    ensures { result ≡ keptFinding (ringFinding (points_of points.now) ring.now) }
+    requires in_bounds { (4 ≤ length ring.now) × (is_unclosed ring.now ≡ false) }
+    requires n_value { as_point n ≡ normal (places (points_of points.now) ring.now) }
+    ensures { result ≡ kept_finding (ring_finding (points_of points.now) ring.now) }
 {
     if is_zero(n) {
         return third_to_fifth(points, ring, n);
@@ -76,8 +76,8 @@ fn fan_first(points: &[i32; 1536], ring: &[u16], n: Place) -> u16
 pub fn first_of_five(points: &[i32; 1536], ring: &[u16], n: Place) -> u16
     requires coords { Coords points.now }
     requires known { Known ring.now }
-    requires n_value { asPoint n ≡ normal (places (points_of points.now) ring.now) }
-    ensures { result ≡ keptFinding (ringFinding (points_of points.now) ring.now) }
+    requires n_value { as_point n ≡ normal (places (points_of points.now) ring.now) }
+    ensures { result ≡ kept_finding (ring_finding (points_of points.now) ring.now) }
 {
     if ring.len() < 4 {
         return 1;
@@ -98,7 +98,7 @@ pub fn first_crossed(points: &[i32; 1536], ring: &[u16]) -> usize
     requires coords { Coords points.now }
     requires known { Known ring.now }
     requires in_bounds { 1 ≤ length ring.now }
-    ensures { result ≡ crossedAt (edgesIn (largestAxis (normal (places (points_of points.now) ring.now))) (places (points_of points.now) ring.now)) }
+    ensures { result ≡ crossed_at (edges_in (largest_axis_of (normal (places (points_of points.now) ring.now))) (places (points_of points.now) ring.now)) }
 {
     let n = normal::normal(points, ring);
     columns::first_crossed(points, ring, axes::largest_axis(n))
@@ -109,7 +109,7 @@ pub fn part_of(points: &[i32; 1536], ring: &[u16], n: Place) -> i64
     requires coords { Coords points.now }
     requires known { Known ring.now }
     requires in_bounds { 1 ≤ length ring.now }
-    requires n_value { asPoint n ≡ normal (places (points_of points.now) ring.now) }
+    requires n_value { as_point n ≡ normal (places (points_of points.now) ring.now) }
     ensures { result ≡ part (points_of points.now) ring.now }
 {
     let first = ring[0];
@@ -121,8 +121,8 @@ pub fn part_of(points: &[i32; 1536], ring: &[u16], n: Place) -> i64
 fn one_by_one(points: &[i32; 1536], ring: &[u16], n: Place) -> u16
     requires coords { Coords points.now }
     requires known { Known ring.now }
-    requires n_value { asPoint n ≡ normal (places (points_of points.now) ring.now) }
-    ensures { result ≡ keptFinding (ringFinding (points_of points.now) ring.now) }
+    requires n_value { as_point n ≡ normal (places (points_of points.now) ring.now) }
+    ensures { result ≡ kept_finding (ring_finding (points_of points.now) ring.now) }
 {
     if ring.len() < 4 {
         return 1;
@@ -137,7 +137,7 @@ fn one_by_one(points: &[i32; 1536], ring: &[u16], n: Place) -> u16
 pub fn look_at_ring(points: &[i32; 1536], ring: &[u16]) -> Look
     requires coords { Coords points.now }
     requires known { Known ring.now }
-    ensures kept_value { result.kept ≡ keptFinding (ringFinding (points_of points.now) ring.now) }
+    ensures kept_value { result.kept ≡ kept_finding (ring_finding (points_of points.now) ring.now) }
     ensures part_value { result.part ≡ part (points_of points.now) ring.now }
 {
     if ring.len() == 0 {

@@ -5,17 +5,17 @@ pub mod five;
 
 ghost use Rattle.std.specs.Prelude.{◌≡◌, ◌≤◌, true};
 ghost use Rattle.space.specs.Space.{places};
-ghost use Rattle.space.specs.held.Points.{points_of, Coords, Known, asPoint};
+ghost use Rattle.space.specs.held.Points.{points_of, Coords, Known, as_point};
 ghost use Rattle.normal.specs.Normal.{normal};
-ghost use Rattle.polygon.specs.Ring.{finding, findingNumber, findingPosition};
-ghost use Rattle.polygon.specs.held.Findings.{keptFinding};
-ghost use Rattle.polygon.specs.held.Position.{hasPosition};
+ghost use Rattle.polygon.specs.Ring.{finding, finding_number_of, finding_position_of};
+ghost use Rattle.polygon.specs.held.Findings.{kept_finding};
+ghost use Rattle.polygon.specs.held.Position.{has_position_of};
 ghost use Rattle.volume.specs.Part.{part};
 
 use space::Place;
 
-// A polygon's finding, with its position where it has one; `Sound` where no check fails. `findingNumber` gives document 01's number,
-// `findingPosition` the position that is told.
+// A polygon's finding, with its position where it has one; `Sound` where no check fails. `finding_number_of` gives document 01's number,
+// `finding_position_of` the position that is told.
 #[derive(Drop)]
 pub enum Finding {
     Sound,
@@ -41,8 +41,8 @@ fn first_failing(points: &[i32; 1536], ring: &[u16], tolerance: u16, n: Place) -
     requires coords { Coords points.now }
     requires known { Known ring.now }
     requires tolerance_bound { tolerance ≤ 1000 }
-    requires n_value { asPoint n ≡ normal (places (points_of points.now) ring.now) }
-    ensures { result ≡ keptFinding (finding tolerance (points_of points.now) ring.now) }
+    requires n_value { as_point n ≡ normal (places (points_of points.now) ring.now) }
+    ensures { result ≡ kept_finding (finding tolerance (points_of points.now) ring.now) }
 {
     let kept = five::first_of_five(points, ring, n);
     if kept != 0 {
@@ -63,8 +63,8 @@ pub fn position_of(points: &[i32; 1536], ring: &[u16], tolerance: u16, number: u
     requires coords { Coords points.now }
     requires known { Known ring.now }
     requires tolerance_bound { tolerance ≤ 1000 }
-    requires number_value { (number ≡ findingNumber (finding tolerance (points_of points.now) ring.now)) × (hasPosition (finding tolerance (points_of points.now) ring.now) ≡ true) }
-    ensures { result ≡ findingPosition (finding tolerance (points_of points.now) ring.now) }
+    requires number_value { (number ≡ finding_number_of (finding tolerance (points_of points.now) ring.now)) × (has_position_of (finding tolerance (points_of points.now) ring.now) ≡ true) }
+    ensures { result ≡ finding_position_of (finding tolerance (points_of points.now) ring.now) }
 {
     if number == 3 {
         return marks::first_repeated(ring);
@@ -81,7 +81,7 @@ pub fn look_at(points: &[i32; 1536], ring: &[u16], tolerance: u16) -> Look
     requires coords { Coords points.now }
     requires known { Known ring.now }
     requires tolerance_bound { tolerance ≤ 1000 }
-    ensures kept_value { result.kept ≡ keptFinding (finding tolerance (points_of points.now) ring.now) }
+    ensures kept_value { result.kept ≡ kept_finding (finding tolerance (points_of points.now) ring.now) }
     ensures part_value { result.part ≡ part (points_of points.now) ring.now }
 {
     if ring.len() == 0 {

@@ -11,14 +11,14 @@ crosses q e =
     le_z e.0.v q.v && lt_z q.v e.1.v && lt_z (pos 0) (side e.0 e.1 q)
     || le_z e.1.v q.v && lt_z q.v e.0.v && lt_z (side e.0 e.1 q) (pos 0)
 
-unfoldable pub isOdd : ℕ → Bool
-isOdd zero = false
-isOdd (suc n) = not (isOdd n)
+unfoldable pub is_odd : ℕ → Bool
+is_odd zero = false
+is_odd (suc n) = not (is_odd n)
 
 -- "inside: a ray from it through no corner crosses the other ring an odd number of times"
 unfoldable pub inside : Spot → List Segment → Bool
-inside q es = isOdd (tally (crosses q) es)
+inside q es = is_odd (tally (crosses q) es)
 
-unfoldable pub inside-computes : Unit {0}
-unfolding crosses isOdd inside
-inside-computes = tt
+unfoldable pub inside_computes : Unit {0}
+unfolding crosses is_odd inside
+inside_computes = tt

@@ -3,16 +3,16 @@ ghost use Rattle.std.specs.Prelude.{◌≡◌, ◌<◌};
 ghost use Rattle.whole.specs.Lists.{steps};
 ghost use Rattle.space.specs.held.Points.{Coords, Known};
 ghost use Rattle.plane.specs.held.Edges.{spot, Close};
-ghost use Rattle.fan.specs.held.Fan.{spotIn};
-ghost use Rattle.fan.specs.laws.Planes.{uOf, vOf};
+ghost use Rattle.fan.specs.held.Fan.{spot_in};
+ghost use Rattle.fan.specs.laws.Planes.{u_of, v_of};
 ghost use Rattle.rays.specs.Inside.{crosses, inside};
-ghost use Rattle.rays.specs.held.Seen.{spotsIn, Plane};
+ghost use Rattle.rays.specs.held.Seen.{spots_in, Plane};
 
 use space::Axis;
 
 // The two coordinates that an axis leaves.
 pub fn first_left(axis: Axis) -> usize
-    ensures { result ≡ uOf axis }
+    ensures { result ≡ u_of axis }
 {
     match axis {
         Axis::X => 1,
@@ -22,7 +22,7 @@ pub fn first_left(axis: Axis) -> usize
 }
 
 pub fn second_left(axis: Axis) -> usize
-    ensures { result ≡ vOf axis }
+    ensures { result ≡ v_of axis }
 {
     match axis {
         Axis::X => 2,
@@ -55,7 +55,7 @@ fn edge_crosses(points: &[i32; 1536], a: u16, b: u16, j: usize, k: usize, qu: i6
     requires coords { Coords points.now }
     requires a_bound { (a < 512) × (b < 512) × Plane j k }
     requires close { Close (spot qu qv) }
-    ensures { result ≡ crosses (spot qu qv) (spotIn points.now j k a, spotIn points.now j k b) }
+    ensures { result ≡ crosses (spot qu qv) (spot_in points.now j k a, spot_in points.now j k b) }
 {
     let au = space::coordinate(points, a, j);
     let av = space::coordinate(points, a, k);
@@ -70,7 +70,7 @@ pub fn inside(points: &[i32; 1536], ring: &[u16], j: usize, k: usize, qu: i64, q
     requires known { Known ring.now }
     requires plane { Plane j k }
     requires close { Close (spot qu qv) }
-    ensures { result ≡ inside (spot qu qv) (steps (spotsIn points.now j k ring.now)) }
+    ensures { result ≡ inside (spot qu qv) (steps (spots_in points.now j k ring.now)) }
 {
     let mut odd = false;
     let n = ring.len();

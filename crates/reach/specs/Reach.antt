@@ -20,6 +20,6 @@ rounds r nodes (n ∷ l) seen = rounds r nodes l (grow r nodes seen)
 unfoldable pub unreached : (ℕ → ℕ → Bool) → List ℕ → ℕ → List ℕ
 unreached r nodes from = let seen = rounds r nodes nodes (from ∷ []) in keep (λ q. not (lists q seen)) nodes
 
-unfoldable pub reach-computes : Unit {0}
+unfoldable pub reach_computes : Unit {0}
 unfolding grow rounds unreached
-reach-computes = tt
+reach_computes = tt

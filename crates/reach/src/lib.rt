@@ -1,14 +1,14 @@
 // What nodes reach along links, by marks: two nodes that are linked, of which one is marked.
 
 ghost use Rattle.std.specs.Prelude.{◌≡◌, ◌/◌, ◌<◌, length};
-ghost use Rattle.bits.specs.held.Bits.{marksOf};
+ghost use Rattle.bits.specs.held.Bits.{marks_of};
 ghost use Rattle.reach.specs.held.Marking.{Joint};
 
 // Marks both of two nodes where one is marked; 1 where the other was not. Two tests are quicker than one that compares the marks: each
 // ends where it knows, and the word of the marked node need not be stored again.
 pub fn join(marks: &mut [u64], x: usize, y: usize) -> usize
     requires { (x / 64 < length marks.old) × (y / 64 < length marks.old) }
-    ensures { (length marks.new ≡ length marks.old) × Joint x y (marksOf marks.old) (marksOf marks.new) result }
+    ensures { (length marks.new ≡ length marks.old) × Joint x y (marks_of marks.old) (marks_of marks.new) result }
 {
     let a = bits::is_marked(marks, x);
     let b = bits::is_marked(marks, y);

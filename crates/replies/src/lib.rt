@@ -2,10 +2,10 @@
 ghost use Rattle.std.specs.Prelude.{◌≡◌, ℕ, ◌+◌, ◌*◌, ◌≤◌, ◌<◌, length, get_or};
 ghost use Rattle.lines.specs.Lines.{lines};
 ghost use Rattle.building.specs.held.Holds.{arrays};
-ghost use Rattle.ring.specs.Polygon.{allRings};
+ghost use Rattle.ring.specs.Polygon.{all_rings};
 ghost use Rattle.service.specs.Service.{tables_of, step};
 ghost use Rattle.desk.specs.held.Holds.{service, Valid, Did};
-ghost use Rattle.replies.specs.held.Answered.{idleDesk, Answered};
+ghost use Rattle.replies.specs.held.Answered.{idle_desk, Answered};
 ghost use Rattle.space.specs.held.Points.{Coords};
 
 use building::Scalars;
@@ -30,7 +30,7 @@ fn one(
     room: &mut [u8],
     d: Desk,
 ) -> Desk
-    requires { ((d.at + 33 ≤ length room.old) × (length (allRings (tables_of (service (arrays points.old entries.old starts.old firsts.old stamps.old findings.old parts.old table.old turned.old) d)).polygons) < 1024)) × (Valid (arrays points.old entries.old starts.old firsts.old stamps.old findings.old parts.old table.old turned.old) d) }
+    requires { ((d.at + 33 ≤ length room.old) × (length (all_rings (tables_of (service (arrays points.old entries.old starts.old firsts.old stamps.old findings.old parts.old table.old turned.old) d)).polygons) < 1024)) × (Valid (arrays points.old entries.old starts.old firsts.old stamps.old findings.old parts.old table.old turned.old) d) }
     ensures { Did (step (service (arrays points.old entries.old starts.old firsts.old stamps.old findings.old parts.old table.old turned.old) d) line.now) room.old d.at (arrays points.new entries.new starts.new firsts.new stamps.new findings.new parts.new table.new turned.new) room.new result }
 {
     let f = frame::decode(line);
@@ -121,7 +121,7 @@ fn fresh_table() -> [u64; 1024]
 
 // No load running, no building held.
 fn idle() -> Desk
-    ensures { result ≡ idleDesk }
+    ensures { result ≡ idle_desk }
 {
     let held = Scalars {
         tolerance: 0,

@@ -1,9 +1,9 @@
 // The report: the first check that fails with its elements, the faults and the six-volume, from what is kept.
 ghost use Rattle.std.specs.Prelude.{◌≡◌, ◌/◌, ◌%◌, ◌≤◌, ltb, length, take};
 ghost use Rattle.whole.specs.Lists.{tally, sum_of};
-ghost use Rattle.polygon.specs.held.Findings.{findingOf};
+ghost use Rattle.polygon.specs.held.Findings.{finding_of};
 ghost use Rattle.building.specs.Report.{verdict};
-ghost use Rattle.building.specs.held.Holds.{heldTables, Loaded, Kept};
+ghost use Rattle.building.specs.held.Holds.{held_tables, Loaded, Kept};
 ghost use Rattle.totals.specs.held.Scans.{lowest};
 
 use building::{Scalars, Verdict};
@@ -11,7 +11,7 @@ use polygon::Finding;
 
 // The finding that is kept so.
 fn finding_from(kept: u16) -> Finding
-    ensures { result ≡ findingOf (kept % 16) (kept / 16) }
+    ensures { result ≡ finding_of (kept % 16) (kept / 16) }
 {
     let at = kept / 16;
     match kept % 16 {
@@ -60,7 +60,7 @@ pub fn verdict_of(
     requires loaded { Loaded points.now entries.now starts.now firsts.now s }
     requires kept { Kept points.now entries.now starts.now firsts.now findings.now parts.now table.now turned.now s }
     requires faults_value { (faults ≡ tally (ltb 0) (take s.polygons findings.now)) × (volume ≡ sum_of (λ z. z) (take s.polygons parts.now)) }
-    ensures { result ≡ verdict (heldTables points.now entries.now starts.now firsts.now s) }
+    ensures { result ≡ verdict (held_tables points.now entries.now starts.now firsts.now s) }
 {
     if faults != 0 {
         let n = s.polygons;

@@ -7,8 +7,8 @@ pub record Polygon : Type 0 where
   pub inner : List (List ℕ)
 
 -- "outer first"
-unfoldable pub ringsOf : Polygon → List (List ℕ)
-ringsOf p = p.outer ∷ p.inner
+unfoldable pub rings_of : Polygon → List (List ℕ)
+rings_of p = p.outer ∷ p.inner
 
 -- a polygon of one ring
 unfoldable pub one : List ℕ → Polygon
@@ -20,18 +20,18 @@ all f [] = []
 all f (ring ∷ rings) = f ring ++ all f rings
 
 -- the entries of all rings
-unfoldable pub entriesOf : Polygon → List ℕ
-entriesOf p = all (λ ring. ring) (ringsOf p)
+unfoldable pub entries_from : Polygon → List ℕ
+entries_from p = all (λ ring. ring) (rings_of p)
 
 -- the rings of all polygons of a list
-unfoldable pub allRings : List Polygon → List (List ℕ)
-allRings [] = []
-allRings (p ∷ ps) = ringsOf p ++ allRings ps
+unfoldable pub all_rings : List Polygon → List (List ℕ)
+all_rings [] = []
+all_rings (p ∷ ps) = rings_of p ++ all_rings ps
 
 -- "Turn reverses every ring."
-unfoldable pub turnedOver : Polygon → Polygon
-turnedOver p = record { outer = reverse p.outer; inner = map reverse p.inner }
+unfoldable pub turned_over : Polygon → Polygon
+turned_over p = record { outer = reverse p.outer; inner = map reverse p.inner }
 
-unfoldable pub polygon-computes : Unit {0}
-unfolding ringsOf one all entriesOf allRings turnedOver
-polygon-computes = tt
+unfoldable pub polygon_computes : Unit {0}
+unfolding rings_of one all entries_from all_rings turned_over
+polygon_computes = tt

@@ -5,7 +5,7 @@ ghost use Rattle.frame.specs.Frame as F;
 ghost use Rattle.frame.specs.Frame.{numbers};
 ghost use Rattle.building.specs.held.Holds.{Arrays};
 ghost use Rattle.desk.specs.held.Holds.{service, Valid, Did, does};
-ghost use Rattle.rings.specs.held.Rings.{withRings, Ends, RingLine, Fits, PolygonRow, InnerRow, Added};
+ghost use Rattle.rings.specs.held.Rings.{with_rings, Ends, RingLine, Fits, PolygonRow, InnerRow, Added};
 ghost use Rattle.whole.specs.Lists.{any};
 
 use building::Scalars;
@@ -157,7 +157,7 @@ pub fn add_polygon(
     d: Desk,
 ) -> Desk
     requires { (d.at + 33 ≤ length room.old) × ((RingLine line.now n) × ((length entries.old ≡ 1024) × (Ends starts.old firsts.old d))) }
-    ensures { (a : Arrays) → a.entries ≡ entries.old → a.starts ≡ starts.old → a.firsts ≡ firsts.old → Valid a d → Did (does (service a d) (F.polygon (numbers (drop 2 line.now)))) room.old d.at (withRings entries.new starts.new firsts.new a) room.new result }
+    ensures { (a : Arrays) → a.entries ≡ entries.old → a.starts ≡ starts.old → a.firsts ≡ firsts.old → Valid a d → Did (does (service a d) (F.polygon (numbers (drop 2 line.now)))) room.old d.at (with_rings entries.new starts.new firsts.new a) room.new result }
 {
     let refusal = of_polygon(line, n, starts, firsts, d);
     if desk::is_accepted(refusal) {
@@ -179,7 +179,7 @@ pub fn add_inner(
     d: Desk,
 ) -> Desk
     requires { (d.at + 33 ≤ length room.old) × ((RingLine line.now n) × ((length entries.old ≡ 1024) × (Ends starts.old firsts.old d))) }
-    ensures { (a : Arrays) → a.entries ≡ entries.old → a.starts ≡ starts.old → a.firsts ≡ firsts.old → Valid a d → Did (does (service a d) (F.inner (numbers (drop 2 line.now)))) room.old d.at (withRings entries.new starts.new firsts.new a) room.new result }
+    ensures { (a : Arrays) → a.entries ≡ entries.old → a.starts ≡ starts.old → a.firsts ≡ firsts.old → Valid a d → Did (does (service a d) (F.inner (numbers (drop 2 line.now)))) room.old d.at (with_rings entries.new starts.new firsts.new a) room.new result }
 {
     let refusal = of_inner(line, n, starts, firsts, d);
     if desk::is_accepted(refusal) {

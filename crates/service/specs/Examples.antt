@@ -1,36 +1,36 @@
 -- The stream of document 01, its examples marked P, and those of document 02.
 use Rattle.std.specs.Prelude.{ℕ, map, reverse, List, [], ◌∷◌, ◌++◌, ◌≡◌, refl, ℤ, pos, negsuc}
-use Rattle.whole.specs.Lists.{lists-compute}
+use Rattle.whole.specs.Lists.{lists_compute}
 use Rattle.frame.specs.Text.{bytes}
-use Rattle.hex.specs.Hex.{hex-computes}
-use Rattle.frame.specs.Frame.{frame-computes}
-use Rattle.answer.specs.Answer.{answer-computes}
+use Rattle.hex.specs.Hex.{hex_computes}
+use Rattle.frame.specs.Frame.{frame_computes}
+use Rattle.answer.specs.Answer.{answer_computes}
 use Rattle.polygon.specs.declared.Finding.{Finding}
 use Rattle.polygon.specs.declared.Finding.TheVariants.{Sound, Short, Unclosed, Repeated, NoNormal, Crossed, Uneven}
-use Rattle.space.specs.Space.{Point, space-computes}
-use Rattle.ring.specs.Polygon.{Polygon, one, turnedOver, polygon-computes}
-use Rattle.polygon.specs.Ring.{ring-computes}
-use Rattle.rays.specs.Inside.{inside-computes}
-use Rattle.holes.specs.Holes.{holes-compute}
-use Rattle.inner.specs.Finding.{finding, part, inner-computes}
-use Rattle.plane.specs.Plane.{plane-computes}
+use Rattle.space.specs.Space.{Point, space_computes}
+use Rattle.ring.specs.Polygon.{Polygon, one, turned_over, polygon_computes}
+use Rattle.polygon.specs.Ring.{ring_computes}
+use Rattle.rays.specs.Inside.{inside_computes}
+use Rattle.holes.specs.Holes.{holes_compute}
+use Rattle.inner.specs.Finding.{finding, part, inner_computes}
+use Rattle.plane.specs.Plane.{plane_computes}
 use Rattle.shell.specs.declared.Shape.TheVariants.{Few}
-use Rattle.edges.specs.Edges.{edges-compute}
-use Rattle.users.specs.EdgeList.{edge-list-computes}
-use Rattle.reach.specs.Reach.{reach-computes}
-use Rattle.shell.specs.Shell.{shell-computes}
-use Rattle.places.specs.Points.{points-compute}
+use Rattle.edges.specs.Edges.{edges_compute}
+use Rattle.users.specs.EdgeList.{edge_list_computes}
+use Rattle.reach.specs.Reach.{reach_computes}
+use Rattle.shell.specs.Shell.{shell_computes}
+use Rattle.places.specs.Points.{points_compute}
 use Rattle.building.specs.declared.Verdict.{Verdict}
 use Rattle.building.specs.declared.Verdict.TheVariants.{Accepted, Faulty, Unsound, Inward}
-use Rattle.building.specs.Tables.{Tables, tables-compute}
-use Rattle.building.specs.Report.{Report, report, report-computes}
-use Rattle.service.specs.Service.{service-computes}
-use Rattle.service.specs.Stream.{stream-computes, answers}
+use Rattle.building.specs.Tables.{Tables, tables_compute}
+use Rattle.building.specs.Report.{Report, report, report_computes}
+use Rattle.service.specs.Service.{service_computes}
+use Rattle.service.specs.Stream.{stream_computes, answers}
 use Rattle.lines.specs.Lines as L
 
-unfoldable pub everything-computes : Unit {0}
-unfolding lists-compute bytes hex-computes L.lines-compute frame-computes answer-computes space-computes plane-computes polygon-computes ring-computes inside-computes holes-compute inner-computes edges-compute edge-list-computes reach-computes shell-computes points-compute tables-compute report-computes service-computes stream-computes
-everything-computes = tt
+unfoldable pub everything_computes : Unit {0}
+unfolding lists_compute bytes hex_computes L.lines_compute frame_computes answer_computes space_computes plane_computes polygon_computes ring_computes inside_computes holes_compute inner_computes edges_compute edge_list_computes reach_computes shell_computes points_compute tables_compute report_computes service_computes stream_computes
+everything_computes = tt
 
 -- "One stream in full": "Input to `framecheck`"
 abbrev pub input : List ℕ
@@ -42,68 +42,68 @@ abbrev pub output : List ℕ
 unfolding bytes
 output = bytes "00\n00\n00\n00\n00\n00\n00\n00\n00\n0000000000000000000000003B9ACA00\n00000000000000000000000077359400\n07\n00000000000000000000000000000000\n00000000000000050000000077359400\n000A000100020000FFFFFFFF88CA6C00\n"
 
-pub worked-stream : answers input ≡ output
-unfolding everything-computes
-worked-stream = refl
+pub worked_stream : answers input ≡ output
+unfolding everything_computes
+worked_stream = refl
 
 -- a stream of document 02 (iii): the bow tie's edges 0 and 2 cross; turned, those are its edges 3 and 1
-abbrev pub turnedInput : List ℕ
+abbrev pub turned_input : List ℕ
 unfolding bytes
-turnedInput = bytes "010000\n02000000000000000000000000\n02000003E8000003E800000000\n02000003E80000000000000000\n0200000000000007D000000000\n0300000001000200030000\n04\n070000\n06000000010000\n070000\n"
+turned_input = bytes "010000\n02000000000000000000000000\n02000003E8000003E800000000\n02000003E80000000000000000\n0200000000000007D000000000\n0300000001000200030000\n04\n070000\n06000000010000\n070000\n"
 
-abbrev pub turnedOutput : List ℕ
+abbrev pub turned_output : List ℕ
 unfolding bytes
-turnedOutput = bytes "00\n00\n00\n00\n00\n00\n00050000000000010000000000000000\n00050000000000000000000000000000\n00050000000100010000000000000000\n00050001000000010000000000000000\n"
+turned_output = bytes "00\n00\n00\n00\n00\n00\n00050000000000010000000000000000\n00050000000000000000000000000000\n00050000000100010000000000000000\n00050001000000010000000000000000\n"
 
-pub turned-stream : answers turnedInput ≡ turnedOutput
-unfolding everything-computes
-turned-stream = refl
+pub turned_stream : answers turned_input ≡ turned_output
+unfolding everything_computes
+turned_stream = refl
 
 -- document 02 (xiii): the worked stream goes on, and polygons 0 and 3 are across the edge from point 1 to point 2, though 3 is turned
-pub across-stream : answers (input ++ bytes "0C00010002\n") ≡ output ++ bytes "00000200000003\n"
-unfolding everything-computes
-across-stream = refl
+pub across_stream : answers (input ++ bytes "0C00010002\n") ≡ output ++ bytes "00000200000003\n"
+unfolding everything_computes
+across_stream = refl
 
 -- polygon 0 goes from point 0 to point 1 and back; polygon 1 stays at 0, goes on to 1 and 2, and is open. So the edge of 0 and 1 is used twice by 0
 -- and once by 1, that of 1 and 2 once, and 0 and 2 share none. Refused: 0C before and in the load, equal numbers, an unknown point.
-abbrev pub sharedInput : List ℕ
+abbrev pub shared_input : List ℕ
 unfolding bytes
-sharedInput = bytes "0C00000001\n010000\n02000000000000000000000000\n02000003E80000000000000000\n0200000000000003E800000000\n03000000010000\n030000000000010002\n0C00000001\n04\n0C00000001\n0C00010000\n0C00020001\n0C00000002\n0C00010001\n0C00020003\n06000000010001\n0C00000001\n"
+shared_input = bytes "0C00000001\n010000\n02000000000000000000000000\n02000003E80000000000000000\n0200000000000003E800000000\n03000000010000\n030000000000010002\n0C00000001\n04\n0C00000001\n0C00010000\n0C00020001\n0C00000002\n0C00010001\n0C00020003\n06000000010001\n0C00000001\n"
 
-abbrev pub sharedOutput : List ℕ
+abbrev pub shared_output : List ℕ
 unfolding bytes
-sharedOutput = bytes "02\n00\n00\n00\n00\n00\n00\n02\n00010000000000020000000000000000\n00000300000000\n00000300000000\n0000010001FFFF\n000000FFFFFFFF\n05\n05\n00010000000000020000000000000000\n00000300000000\n"
+shared_output = bytes "02\n00\n00\n00\n00\n00\n00\n02\n00010000000000020000000000000000\n00000300000000\n00000300000000\n0000010001FFFF\n000000FFFFFFFF\n05\n05\n00010000000000020000000000000000\n00000300000000\n"
 
-pub shared-stream : answers sharedInput ≡ sharedOutput
-unfolding everything-computes
-shared-stream = refl
+pub shared_stream : answers shared_input ≡ shared_output
+unfolding everything_computes
+shared_stream = refl
 
 -- document 02 (iv): 08 is refused before a load, before any polygon of it, for an unknown point, after eight inner rings (an unknown point comes first)
 -- and after the load; the polygon's outer ring is empty, and so are its eight others
-abbrev pub innerInput : List ℕ
+abbrev pub inner_input : List ℕ
 unfolding bytes
-innerInput = bytes "08\n010000\n08\n02000000000000000000000000\n03\n080001\n08\n08\n08\n08\n08\n08\n08\n08\n08\n080001\n04\n08\n"
+inner_input = bytes "08\n010000\n08\n02000000000000000000000000\n03\n080001\n08\n08\n08\n08\n08\n08\n08\n08\n08\n080001\n04\n08\n"
 
-abbrev pub innerOutput : List ℕ
+abbrev pub inner_output : List ℕ
 unfolding bytes
-innerOutput = bytes "02\n00\n02\n00\n00\n05\n00\n00\n00\n00\n00\n00\n00\n00\n04\n05\n00010000000000010000000000000000\n02\n"
+inner_output = bytes "02\n00\n02\n00\n00\n05\n00\n00\n00\n00\n00\n00\n00\n00\n04\n05\n00010000000000010000000000000000\n02\n"
 
-pub inner-stream : answers innerInput ≡ innerOutput
-unfolding everything-computes
-inner-stream = refl
+pub inner_stream : answers inner_input ≡ inner_output
+unfolding everything_computes
+inner_stream = refl
 
 -- "Courtyard houses": 3 m by 3 m and 1 m high, around a courtyard of 1 m by 1 m
-abbrev pub courtyardInput : List ℕ
+abbrev pub courtyard_input : List ℕ
 unfolding bytes
-courtyardInput = bytes "010000\n02000000000000000000000000\n0200000BB80000000000000000\n0200000BB800000BB800000000\n020000000000000BB800000000\n02000003E8000003E800000000\n02000007D0000003E800000000\n02000007D0000007D000000000\n02000003E8000007D000000000\n020000000000000000000003E8\n0200000BB800000000000003E8\n0200000BB800000BB8000003E8\n020000000000000BB8000003E8\n02000003E8000003E8000003E8\n02000007D0000003E8000003E8\n02000007D0000007D0000003E8\n02000003E8000007D0000003E8\n0300080009000A000B0008\n08000C000F000E000D000C\n0300000003000200010000\n0800040005000600070004\n0300000001000900080000\n0300010002000A00090001\n0300020003000B000A0002\n03000300000008000B0003\n0300050004000C000D0005\n0300060005000D000E0006\n0300070006000E000F0007\n0300040007000F000C0004\n04\n"
+courtyard_input = bytes "010000\n02000000000000000000000000\n0200000BB80000000000000000\n0200000BB800000BB800000000\n020000000000000BB800000000\n02000003E8000003E800000000\n02000007D0000003E800000000\n02000007D0000007D000000000\n02000003E8000007D000000000\n020000000000000000000003E8\n0200000BB800000000000003E8\n0200000BB800000BB8000003E8\n020000000000000BB8000003E8\n02000003E8000003E8000003E8\n02000007D0000003E8000003E8\n02000007D0000007D0000003E8\n02000003E8000007D0000003E8\n0300080009000A000B0008\n08000C000F000E000D000C\n0300000003000200010000\n0800040005000600070004\n0300000001000900080000\n0300010002000A00090001\n0300020003000B000A0002\n03000300000008000B0003\n0300050004000C000D0005\n0300060005000D000E0006\n0300070006000E000F0007\n0300040007000F000C0004\n04\n"
 
-abbrev pub courtyardOutput : List ℕ
+abbrev pub courtyard_output : List ℕ
 unfolding bytes
-courtyardOutput = bytes "00\n00\n00\n00\n00\n00\n00\n00\n00\n00\n00\n00\n00\n00\n00\n00\n00\n00\n00\n00\n00\n00\n00\n00\n00\n00\n00\n00\n00\n00000000000000000000000B2D05E000\n"
+courtyard_output = bytes "00\n00\n00\n00\n00\n00\n00\n00\n00\n00\n00\n00\n00\n00\n00\n00\n00\n00\n00\n00\n00\n00\n00\n00\n00\n00\n00\n00\n00\n00000000000000000000000B2D05E000\n"
 
-pub courtyard-stream : answers courtyardInput ≡ courtyardOutput
-unfolding everything-computes
-courtyard-stream = refl
+pub courtyard_stream : answers courtyard_input ≡ courtyard_output
+unfolding everything_computes
+courtyard_stream = refl
 
 -- ---- "Examples at the edges"
 
@@ -127,8 +127,8 @@ abbrev pub steep : List Point
 steep = place (mm 0) (mm 0) (mm 0) ∷ place (mm 1000) (mm 0) (mm 1000) ∷ place (mm 1000) (mm 1000) (mm 1000) ∷ place (mm 0) (mm 1000) (mm 21) ∷ []
 
 -- "(0,0), (1000,1000), (1000,0)", and a last corner at (0,h)
-abbrev pub bowTie : ℕ → List Point
-bowTie h = place (mm 0) (mm 0) (mm 0) ∷ place (mm 1000) (mm 1000) (mm 0) ∷ place (mm 1000) (mm 0) (mm 0) ∷ place (mm 0) (mm h) (mm 0) ∷ []
+abbrev pub bow_tie : ℕ → List Point
+bow_tie h = place (mm 0) (mm 0) (mm 0) ∷ place (mm 1000) (mm 1000) (mm 0) ∷ place (mm 1000) (mm 0) (mm 0) ∷ place (mm 0) (mm h) (mm 0) ∷ []
 
 abbrev pub corners : List Point
 corners = place (mm 0) (mm 0) (mm 0) ∷ place (mm 1000) (mm 0) (mm 0) ∷ place (mm 0) (mm 1000) (mm 0) ∷ place (mm 0) (mm 0) (mm 1000) ∷ []
@@ -176,16 +176,16 @@ examples =
     ring 10 (tilted 20) four Sound ∷
     ring 10 (tilted 21) four (Uneven 1) ∷
     ring 10 steep four Sound ∷
-    ring 0 (bowTie 1000) four NoNormal ∷
-    ring 0 (bowTie 2000) four (Crossed 0) ∷
-    ring 0 (bowTie 2000) (reverse four) (Crossed 1) ∷
+    ring 0 (bow_tie 1000) four NoNormal ∷
+    ring 0 (bow_tie 2000) four (Crossed 0) ∷
+    ring 0 (bow_tie 2000) (reverse four) (Crossed 1) ∷
     ring 0 corners (0 ∷ 1 ∷ 2 ∷ 2 ∷ 1 ∷ 0 ∷ []) (Repeated 3) ∷
     ring 0 corners (0 ∷ 1 ∷ 2 ∷ 0 ∷ 0 ∷ []) (Repeated 3) ∷
     ring 0 corners [] Short ∷
     ring 0 corners (0 ∷ 1 ∷ 0 ∷ []) Short ∷
     ring 0 corners (0 ∷ 1 ∷ 2 ∷ 3 ∷ []) Unclosed ∷
     building tetrahedron (says Accepted (pos 1000000000)) ∷
-    building (map turnedOver tetrahedron) (says Inward (negsuc 999999999)) ∷
+    building (map turned_over tetrahedron) (says Inward (negsuc 999999999)) ∷
     building three (says (Unsound (Few 3)) (pos 0)) ∷
     building [] (says (Unsound (Few 0)) (pos 0)) ∷
     building (one (0 ∷ 1 ∷ 2 ∷ 1 ∷ 0 ∷ []) ∷ []) (record { check = Faulty 0 (Repeated 3); faults = 1; volume = pos 0 }) ∷
@@ -193,6 +193,6 @@ examples =
     parted uneven (reverse unclosed) (pos 0) ∷
     []
 
-pub examples-hold : All examples
-unfolding everything-computes
-examples-hold = (refl, (refl, (refl, (refl, (refl, (refl, (refl, (refl, (refl, (refl, (refl, (refl, (refl, (refl, (refl, (refl, (refl, (refl, tt))))))))))))))))))
+pub examples_hold : All examples
+unfolding everything_computes
+examples_hold = (refl, (refl, (refl, (refl, (refl, (refl, (refl, (refl, (refl, (refl, (refl, (refl, (refl, (refl, (refl, (refl, (refl, (refl, tt))))))))))))))))))

@@ -1,14 +1,14 @@
 -- The service: one frame at a time, refused by the first row of the table that holds, or accepted.
 use Rattle.std.specs.Prelude.{ℕ, ◌+◌, Bool, true, false, not, ◌||◌, List, [], ◌∷◌, eqb, leb, ltb, length, get_or}
 use Rattle.whole.specs.Lists.{given, first, any}
-use Rattle.frame.specs.Frame.{Frame, begin, point, polygon, end-of-load, move, turn, question, inner, across, broken, decode}
+use Rattle.frame.specs.Frame.{Frame, begin, point, polygon, end_of_load, move, turn, question, inner, across, broken, decode}
 use Rattle.answer.specs.Answer.{plain, reported, told}
 use Rattle.ring.specs.Polygon.{one}
-use Rattle.polygon.specs.Ring.{findingNumber, findingPosition}
+use Rattle.polygon.specs.Ring.{finding_number_of, finding_position_of}
 use Rattle.inner.specs.Finding.{finding, part}
-use Rattle.places.specs.Points.{isFar, stands, standsElse}
-use Rattle.building.specs.Tables.{Tables, Building, begun, withPoint, withPolygon, lastPolygon, withInner, entries, loaded, moved, turned}
-use Rattle.building.specs.Report.{report, checkNumber, elementA, elementB}
+use Rattle.places.specs.Points.{is_far_of, stands, stands_else_of}
+use Rattle.building.specs.Tables.{Tables, Building, begun, with_point, with_polygon, last_polygon, with_inner, entries, loaded, moved, turned}
+use Rattle.building.specs.Report.{report, check_number_of, element_a_of, element_b_of}
 use Rattle.service.specs.declared.Refusal.{Refusal}
 use Rattle.service.specs.declared.Refusal.TheVariants.{Accepted, Malformed, Misplaced, Beyond, Full, Absent, Taken, Late}
 use Rattle.answer.specs.Answer as Answer
@@ -21,15 +21,15 @@ pub data State : Type 0 where
   holding : Building → State
 
 -- the column No.
-unfoldable pub refusalNumber : Refusal → ℕ
-refusalNumber Accepted = 0
-refusalNumber Malformed = 1
-refusalNumber Misplaced = 2
-refusalNumber Beyond = 3
-refusalNumber Full = 4
-refusalNumber Absent = 5
-refusalNumber Taken = 6
-refusalNumber Late = 7
+unfoldable pub refusal_number_of : Refusal → ℕ
+refusal_number_of Accepted = 0
+refusal_number_of Malformed = 1
+refusal_number_of Misplaced = 2
+refusal_number_of Beyond = 3
+refusal_number_of Full = 4
+refusal_number_of Absent = 5
+refusal_number_of Taken = 6
+refusal_number_of Late = 7
 
 -- ---- what is held
 
@@ -40,111 +40,111 @@ tables_of (loading t) = t
 tables_of (holding b) = b.tables
 
 -- the building held; rows that need one are tested only where one is held
-unfoldable pub buildingOf : State → Building
-buildingOf nothing = loaded (begun 0)
-buildingOf (loading t) = loaded t
-buildingOf (holding b) = b
+unfoldable pub building_of : State → Building
+building_of nothing = loaded (begun 0)
+building_of (loading t) = loaded t
+building_of (holding b) = b
 
 -- "while a load is running"
-unfoldable pub isLoading : State → Bool
-isLoading nothing = false
-isLoading (loading t) = true
-isLoading (holding b) = false
+unfoldable pub is_loading_of : State → Bool
+is_loading_of nothing = false
+is_loading_of (loading t) = true
+is_loading_of (holding b) = false
 
 -- "while a building is held"
-unfoldable pub isHolding : State → Bool
-isHolding nothing = false
-isHolding (loading t) = false
-isHolding (holding b) = true
+unfoldable pub is_holding_of : State → Bool
+is_holding_of nothing = false
+is_holding_of (loading t) = false
+is_holding_of (holding b) = true
 
 -- ---- the rows of the table of refusals, in the order of testing
 
 -- 01: "a character, kind or length that the frame table doesn't have"
-unfoldable pub isMalformed : Frame → Bool
-isMalformed (begin t) = false
-isMalformed (point x y z) = false
-isMalformed (polygon ring) = false
-isMalformed end-of-load = false
-isMalformed (move number n x y z) = false
-isMalformed (turn number n) = false
-isMalformed (question n) = false
-isMalformed (inner ring) = false
-isMalformed (across m n) = false
-isMalformed broken = true
+unfoldable pub is_malformed : Frame → Bool
+is_malformed (begin t) = false
+is_malformed (point x y z) = false
+is_malformed (polygon ring) = false
+is_malformed end_of_load = false
+is_malformed (move number n x y z) = false
+is_malformed (turn number n) = false
+is_malformed (question n) = false
+is_malformed (inner ring) = false
+is_malformed (across m n) = false
+is_malformed broken = true
 
 -- 02: "02, 03 or 04 while no load is running; 05, 06 or 07 while no building is held"; document 02 (iv): "02 also for 08 with no load running or
 -- before any polygon of it"; (xiii): "02 with no building held"
-unfoldable pub isMisplaced : State → Frame → Bool
-isMisplaced st (begin t) = false
-isMisplaced st (point x y z) = not (isLoading st)
-isMisplaced st (polygon ring) = not (isLoading st)
-isMisplaced st end-of-load = not (isLoading st)
-isMisplaced st (move number n x y z) = not (isHolding st)
-isMisplaced st (turn number n) = not (isHolding st)
-isMisplaced st (question n) = not (isHolding st)
-isMisplaced st (inner ring) = not (isLoading st) || eqb (length (tables_of st).polygons) 0
-isMisplaced st (across m n) = not (isHolding st)
-isMisplaced st broken = false
+unfoldable pub is_misplaced_of : State → Frame → Bool
+is_misplaced_of st (begin t) = false
+is_misplaced_of st (point x y z) = not (is_loading_of st)
+is_misplaced_of st (polygon ring) = not (is_loading_of st)
+is_misplaced_of st end_of_load = not (is_loading_of st)
+is_misplaced_of st (move number n x y z) = not (is_holding_of st)
+is_misplaced_of st (turn number n) = not (is_holding_of st)
+is_misplaced_of st (question n) = not (is_holding_of st)
+is_misplaced_of st (inner ring) = not (is_loading_of st) || eqb (length (tables_of st).polygons) 0
+is_misplaced_of st (across m n) = not (is_holding_of st)
+is_misplaced_of st broken = false
 
 -- 07: "correction number not above the last accepted one (0 is always late)"
-unfoldable pub isLate : Building → Frame → Bool
-isLate b (begin t) = false
-isLate b (point x y z) = false
-isLate b (polygon ring) = false
-isLate b end-of-load = false
-isLate b (move number n x y z) = leb number b.last
-isLate b (turn number n) = leb number b.last
-isLate b (question n) = false
-isLate b (inner ring) = false
-isLate b (across m n) = false
-isLate b broken = false
+unfoldable pub is_late : Building → Frame → Bool
+is_late b (begin t) = false
+is_late b (point x y z) = false
+is_late b (polygon ring) = false
+is_late b end_of_load = false
+is_late b (move number n x y z) = leb number b.last
+is_late b (turn number n) = leb number b.last
+is_late b (question n) = false
+is_late b (inner ring) = false
+is_late b (across m n) = false
+is_late b broken = false
 
 -- 05: "a point or polygon number not below the present count"; document 02 (xiii): "05 for an unknown point; two equal numbers also 05"
-unfoldable pub isAbsent : Tables → Frame → Bool
-isAbsent t (begin tolerance) = false
-isAbsent t (point x y z) = false
-isAbsent t (polygon ring) = any (leb (length t.points)) ring
-isAbsent t end-of-load = false
-isAbsent t (move number n x y z) = leb (length t.points) n
-isAbsent t (turn number n) = leb (length t.polygons) n
-isAbsent t (question n) = leb (length t.polygons) n
-isAbsent t (inner ring) = any (leb (length t.points)) ring
-isAbsent t (across m n) = leb (length t.points) m || leb (length t.points) n || eqb m n
-isAbsent t broken = false
+unfoldable pub is_absent : Tables → Frame → Bool
+is_absent t (begin tolerance) = false
+is_absent t (point x y z) = false
+is_absent t (polygon ring) = any (leb (length t.points)) ring
+is_absent t end_of_load = false
+is_absent t (move number n x y z) = leb (length t.points) n
+is_absent t (turn number n) = leb (length t.polygons) n
+is_absent t (question n) = leb (length t.polygons) n
+is_absent t (inner ring) = any (leb (length t.points)) ring
+is_absent t (across m n) = leb (length t.points) m || leb (length t.points) n || eqb m n
+is_absent t broken = false
 
 -- 03: "tolerance or coordinate beyond its bound"
-unfoldable pub isBeyond : Frame → Bool
-isBeyond (begin tolerance) = ltb 1000 tolerance
-isBeyond (point x y z) = isFar (record { x = x; y = y; z = z })
-isBeyond (polygon ring) = false
-isBeyond end-of-load = false
-isBeyond (move number n x y z) = isFar (record { x = x; y = y; z = z })
-isBeyond (turn number n) = false
-isBeyond (question n) = false
-isBeyond (inner ring) = false
-isBeyond (across m n) = false
-isBeyond broken = false
+unfoldable pub is_beyond_of : Frame → Bool
+is_beyond_of (begin tolerance) = ltb 1000 tolerance
+is_beyond_of (point x y z) = is_far_of (record { x = x; y = y; z = z })
+is_beyond_of (polygon ring) = false
+is_beyond_of end_of_load = false
+is_beyond_of (move number n x y z) = is_far_of (record { x = x; y = y; z = z })
+is_beyond_of (turn number n) = false
+is_beyond_of (question n) = false
+is_beyond_of (inner ring) = false
+is_beyond_of (across m n) = false
+is_beyond_of broken = false
 
 -- 04: "the 513th point, the 257th polygon, or entries above 1,024 in all"; document 02 (iv): "04 also for a ninth inner ring"
-unfoldable pub isFull : Tables → Frame → Bool
-isFull t (begin tolerance) = false
-isFull t (point x y z) = leb 512 (length t.points)
-isFull t (polygon ring) = leb 256 (length t.polygons) || ltb 1024 (entries t.polygons + length ring)
-isFull t end-of-load = false
-isFull t (move number n x y z) = false
-isFull t (turn number n) = false
-isFull t (question n) = false
-isFull t (inner ring) = leb 8 (length (lastPolygon t).inner) || ltb 1024 (entries t.polygons + length ring)
-isFull t (across m n) = false
-isFull t broken = false
+unfoldable pub is_full_of : Tables → Frame → Bool
+is_full_of t (begin tolerance) = false
+is_full_of t (point x y z) = leb 512 (length t.points)
+is_full_of t (polygon ring) = leb 256 (length t.polygons) || ltb 1024 (entries t.polygons + length ring)
+is_full_of t end_of_load = false
+is_full_of t (move number n x y z) = false
+is_full_of t (turn number n) = false
+is_full_of t (question n) = false
+is_full_of t (inner ring) = leb 8 (length (last_polygon t).inner) || ltb 1024 (entries t.polygons + length ring)
+is_full_of t (across m n) = false
+is_full_of t broken = false
 
 -- 06: "the place is that of another point"
 unfoldable pub is_taken : Tables → Frame → Bool
 is_taken t (begin tolerance) = false
 is_taken t (point x y z) = stands (record { x = x; y = y; z = z }) t.points
 is_taken t (polygon ring) = false
-is_taken t end-of-load = false
-is_taken t (move number n x y z) = standsElse n (record { x = x; y = y; z = z }) t.points
+is_taken t end_of_load = false
+is_taken t (move number n x y z) = stands_else_of n (record { x = x; y = y; z = z }) t.points
 is_taken t (turn number n) = false
 is_taken t (question n) = false
 is_taken t (inner ring) = false
@@ -155,12 +155,12 @@ is_taken t broken = false
 unfoldable pub refusal : State → Frame → Refusal
 refusal st f =
     first Accepted
-    (given (isMalformed f) Malformed ∷
-    given (isMisplaced st f) Misplaced ∷
-    given (isLate (buildingOf st) f) Late ∷
-    given (isAbsent (tables_of st) f) Absent ∷
-    given (isBeyond f) Beyond ∷
-    given (isFull (tables_of st) f) Full ∷
+    (given (is_malformed f) Malformed ∷
+    given (is_misplaced_of st f) Misplaced ∷
+    given (is_late (building_of st) f) Late ∷
+    given (is_absent (tables_of st) f) Absent ∷
+    given (is_beyond_of f) Beyond ∷
+    given (is_full_of (tables_of st) f) Full ∷
     given (is_taken (tables_of st) f) Taken ∷
     [])
 
@@ -169,48 +169,48 @@ refusal st f =
 -- "Accepted begin drops all that was held and starts a load; it is allowed at any time"; the others as their rows say
 unfoldable pub takes : State → Frame → State
 takes st (begin tolerance) = loading (begun tolerance)
-takes st (point x y z) = loading (withPoint (record { x = x; y = y; z = z }) (tables_of st))
-takes st (polygon ring) = loading (withPolygon ring (tables_of st))
-takes st end-of-load = holding (loaded (tables_of st))
-takes st (move number n x y z) = holding (moved number n (record { x = x; y = y; z = z }) (buildingOf st))
-takes st (turn number n) = holding (turned number n (buildingOf st))
+takes st (point x y z) = loading (with_point (record { x = x; y = y; z = z }) (tables_of st))
+takes st (polygon ring) = loading (with_polygon ring (tables_of st))
+takes st end_of_load = holding (loaded (tables_of st))
+takes st (move number n x y z) = holding (moved number n (record { x = x; y = y; z = z }) (building_of st))
+takes st (turn number n) = holding (turned number n (building_of st))
 takes st (question n) = st
-takes st (inner ring) = loading (withInner ring (tables_of st))
+takes st (inner ring) = loading (with_inner ring (tables_of st))
 takes st (across m n) = st
 takes st broken = st
 
 -- the report as it is answered
-unfoldable pub reportOf : Tables → List ℕ
-reportOf t =
+unfoldable pub report_of : Tables → List ℕ
+report_of t =
     let r = report t in
-    reported (checkNumber r.check) (elementA r.check) (elementB r.check) r.faults r.volume
+    reported (check_number_of r.check) (element_a_of r.check) (element_b_of r.check) r.faults r.volume
 
 -- a polygon's finding with its position, its stamp and its part, as they are answered
-unfoldable pub toldOf : ℕ → Building → List ℕ
-toldOf n b =
+unfoldable pub told_of : ℕ → Building → List ℕ
+told_of n b =
     let t = b.tables in
     let p = get_or t.polygons n (one []) in
     let f = finding t.tolerance t.points p in
-    told (findingNumber f) (findingPosition f) (get_or b.stamps n 0) (part t.points p)
+    told (finding_number_of f) (finding_position_of f) (get_or b.stamps n 0) (part t.points p)
 
 -- what the list of edges tells of two points, as it is answered
-unfoldable pub acrossOf : ℕ → ℕ → Tables → List ℕ
-acrossOf m n t =
+unfoldable pub across_of : ℕ → ℕ → Tables → List ℕ
+across_of m n t =
     let e = EdgeList.across m n t.polygons in
     Answer.across e.users e.lowest e.second
 
 -- what is answered to an accepted frame, of what is held after it
-unfoldable pub answerTo : Frame → State → List ℕ
-answerTo (begin tolerance) st = plain 0
-answerTo (point x y z) st = plain 0
-answerTo (polygon ring) st = plain 0
-answerTo end-of-load st = reportOf (tables_of st)
-answerTo (move number n x y z) st = reportOf (tables_of st)
-answerTo (turn number n) st = reportOf (tables_of st)
-answerTo (question n) st = toldOf n (buildingOf st)
-answerTo (inner ring) st = plain 0
-answerTo (across m n) st = acrossOf m n (tables_of st)
-answerTo broken st = plain 0
+unfoldable pub answer_to : Frame → State → List ℕ
+answer_to (begin tolerance) st = plain 0
+answer_to (point x y z) st = plain 0
+answer_to (polygon ring) st = plain 0
+answer_to end_of_load st = report_of (tables_of st)
+answer_to (move number n x y z) st = report_of (tables_of st)
+answer_to (turn number n) st = report_of (tables_of st)
+answer_to (question n) st = told_of n (building_of st)
+answer_to (inner ring) st = plain 0
+answer_to (across m n) st = across_of m n (tables_of st)
+answer_to broken st = plain 0
 
 -- ---- one line
 
@@ -221,11 +221,11 @@ pub record Outcome : Type 0 where
 
 -- "Refused: the two digits below, and nothing held changes."
 abbrev pub refused : Refusal → State → Outcome
-refused r st = record { next = st; answer = plain (refusalNumber r) }
+refused r st = record { next = st; answer = plain (refusal_number_of r) }
 
 -- accepted or refused
 unfoldable pub outcome : Refusal → State → Frame → Outcome
-outcome Accepted st f = record { next = takes st f; answer = answerTo f (takes st f) }
+outcome Accepted st f = record { next = takes st f; answer = answer_to f (takes st f) }
 outcome Malformed st f = refused Malformed st
 outcome Misplaced st f = refused Misplaced st
 outcome Beyond st f = refused Beyond st
@@ -239,20 +239,20 @@ unfoldable pub step : State → List ℕ → Outcome
 step st l = let f = decode l in outcome (refusal st f) st f
 
 -- whether no row refuses
-unfoldable pub isAccepted : Refusal → Bool
-isAccepted Accepted = true
-isAccepted Malformed = false
-isAccepted Misplaced = false
-isAccepted Beyond = false
-isAccepted Full = false
-isAccepted Absent = false
-isAccepted Taken = false
-isAccepted Late = false
+unfoldable pub is_accepted_of : Refusal → Bool
+is_accepted_of Accepted = true
+is_accepted_of Malformed = false
+is_accepted_of Misplaced = false
+is_accepted_of Beyond = false
+is_accepted_of Full = false
+is_accepted_of Absent = false
+is_accepted_of Taken = false
+is_accepted_of Late = false
 
 -- whether a line is accepted in a state
 unfoldable pub accepts : State → List ℕ → Bool
-accepts st l = isAccepted (refusal st (decode l))
+accepts st l = is_accepted_of (refusal st (decode l))
 
-unfoldable pub service-computes : Unit {0}
-unfolding refusalNumber tables_of buildingOf isLoading isHolding isMalformed isMisplaced isLate isAbsent isBeyond isFull is_taken refusal takes reportOf toldOf acrossOf answerTo outcome step
-service-computes = tt
+unfoldable pub service_computes : Unit {0}
+unfolding refusal_number_of tables_of building_of is_loading_of is_holding_of is_malformed is_misplaced_of is_late is_absent is_beyond_of is_full_of is_taken refusal takes report_of told_of across_of answer_to outcome step
+service_computes = tt

@@ -1,9 +1,9 @@
 -- The span from an accepted end of load until the next accepted begin: its corrections, and the corrected tables.
 use Rattle.std.specs.Prelude.{ℕ, ◌≡◌, Bool, true, false, ◌&&◌, List, [], ◌∷◌, ◌++◌, get_or, ℤ}
-use Rattle.frame.specs.Frame.{Frame, begin, point, polygon, end-of-load, move, turn, question, inner, across, broken, decode}
+use Rattle.frame.specs.Frame.{Frame, begin, point, polygon, end_of_load, move, turn, question, inner, across, broken, decode}
 use Rattle.answer.specs.Answer.{told}
 use Rattle.ring.specs.Polygon.{one}
-use Rattle.polygon.specs.Ring.{findingNumber, findingPosition}
+use Rattle.polygon.specs.Ring.{finding_number_of, finding_position_of}
 use Rattle.inner.specs.Finding.{finding, part}
 use Rattle.building.specs.Corrections.{Correction, corrected}
 use Rattle.building.specs.Tables.{Tables, loaded}
@@ -12,29 +12,29 @@ use Rattle.service.specs.Stream.{after}
 use Rattle.building.specs.Corrections as C
 
 -- whether a frame is a begin
-unfoldable pub isBegin : Frame → Bool
-isBegin (begin t) = true
-isBegin (point x y z) = false
-isBegin (polygon ring) = false
-isBegin end-of-load = false
-isBegin (move number n x y z) = false
-isBegin (turn number n) = false
-isBegin (question n) = false
-isBegin (inner ring) = false
-isBegin (across m n) = false
-isBegin broken = false
+unfoldable pub is_begin : Frame → Bool
+is_begin (begin t) = true
+is_begin (point x y z) = false
+is_begin (polygon ring) = false
+is_begin end_of_load = false
+is_begin (move number n x y z) = false
+is_begin (turn number n) = false
+is_begin (question n) = false
+is_begin (inner ring) = false
+is_begin (across m n) = false
+is_begin broken = false
 
 -- no line of some is an accepted begin
 unfoldable pub NoBegin : State → List (List ℕ) → Type 0
 NoBegin st [] = Unit {0}
-NoBegin st (l ∷ ls) = ((accepts st l && isBegin (decode l)) ≡ false) × NoBegin (step st l).next ls
+NoBegin st (l ∷ ls) = ((accepts st l && is_begin (decode l)) ≡ false) × NoBegin (step st l).next ls
 
 -- a history, and the correction of an accepted frame put to it
 unfoldable pub recorded : Frame → List Correction → List Correction
 recorded (begin t) h = h
 recorded (point x y z) h = h
 recorded (polygon ring) h = h
-recorded end-of-load h = h
+recorded end_of_load h = h
 recorded (move number n x y z) h = C.move number n (record { x = x; y = y; z = z }) ∷ h
 recorded (turn number n) h = C.turn number n ∷ h
 recorded (question n) h = h
@@ -48,22 +48,22 @@ history st [] h = h
 history st (l ∷ ls) h = history (step st l).next ls (elim (accepts st l) [ true ↦ recorded (decode l) h | false ↦ h ])
 
 -- the tables that a load of these lines has brought about
-unfoldable pub loadedBy : List (List ℕ) → Tables
-loadedBy before = tables_of (after nothing before)
+unfoldable pub loaded_by : List (List ℕ) → Tables
+loaded_by before = tables_of (after nothing before)
 
 -- "From an accepted end of load until the next accepted begin": the lines before, the end of load, and the lines since
 pub record Span (before : List (List ℕ)) (end : List ℕ) (since : List (List ℕ)) : Type 0 where
-  pub ends : decode end ≡ end-of-load
+  pub ends : decode end ≡ end_of_load
   pub accepted : accepts (after nothing before) end ≡ true
-  pub no-begin : NoBegin (holding (loaded (loadedBy before))) since
+  pub no_begin : NoBegin (holding (loaded (loaded_by before))) since
 
 -- the corrections accepted in the span, the last one first
-unfoldable pub correctionsOf : List (List ℕ) → List (List ℕ) → List Correction
-correctionsOf before since = history (holding (loaded (loadedBy before))) since []
+unfoldable pub corrections_of : List (List ℕ) → List (List ℕ) → List Correction
+corrections_of before since = history (holding (loaded (loaded_by before))) since []
 
 -- "the corrected tables"
-unfoldable pub correctedBy : List (List ℕ) → List (List ℕ) → Tables
-correctedBy before since = corrected (loadedBy before) (correctionsOf before since)
+unfoldable pub corrected_by : List (List ℕ) → List (List ℕ) → Tables
+corrected_by before since = corrected (loaded_by before) (corrections_of before since)
 
 -- what is held in the span
 unfoldable pub held : (before : List (List ℕ)) (end : List ℕ) (since : List (List ℕ)) → State
@@ -72,17 +72,17 @@ held before end since = after nothing (before ++ end ∷ since)
 -- ---- the frames of a span
 
 -- whether a frame is a correction
-unfoldable pub isCorrection : Frame → Bool
-isCorrection (begin t) = false
-isCorrection (point x y z) = false
-isCorrection (polygon ring) = false
-isCorrection end-of-load = false
-isCorrection (move number n x y z) = true
-isCorrection (turn number n) = true
-isCorrection (question n) = false
-isCorrection (inner ring) = false
-isCorrection (across m n) = false
-isCorrection broken = false
+unfoldable pub is_correction : Frame → Bool
+is_correction (begin t) = false
+is_correction (point x y z) = false
+is_correction (polygon ring) = false
+is_correction end_of_load = false
+is_correction (move number n x y z) = true
+is_correction (turn number n) = true
+is_correction (question n) = false
+is_correction (inner ring) = false
+is_correction (across m n) = false
+is_correction broken = false
 
 -- a frame is a correction of that number
 pub data Numbered : Frame → ℕ → Type 0 where
@@ -90,17 +90,17 @@ pub data Numbered : Frame → ℕ → Type 0 where
   a_turn : {number n : ℕ} → Numbered (turn number n) number
 
 -- what is answered about polygon n of tables, with that stamp
-abbrev pub toldIn : Tables → ℕ → ℕ → List ℕ
-toldIn t n stamp =
+abbrev pub told_in : Tables → ℕ → ℕ → List ℕ
+told_in t n stamp =
     let p = get_or t.polygons n (one []) in
     let f = finding t.tolerance t.points p in
-    told (findingNumber f) (findingPosition f) stamp (part t.points p)
+    told (finding_number_of f) (finding_position_of f) stamp (part t.points p)
 
 -- two answers about a polygon that agree in its finding, the position and its part
 pub record SameButStamp (answer fresh : List ℕ) : Type 0 where
   pub found : ℕ
   pub position : ℕ
   pub stamp : ℕ
-  pub part-is : ℤ
-  pub here : answer ≡ told found position stamp part-is
-  pub there : fresh ≡ told found position 0 part-is
+  pub part_is : ℤ
+  pub here : answer ≡ told found position stamp part_is
+  pub there : fresh ≡ told found position 0 part_is

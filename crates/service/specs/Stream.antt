@@ -28,15 +28,15 @@ pub data Whole : Type 0 where
   answered : Whole
   too_long : Whole
   too_many : Whole
-  too-narrow : Whole
+  too_narrow : Whole
 
 -- "Whole-stream refusals, tested in this order"
-unfoldable pub wholeRefusal : List ℕ → List ℕ → Whole
-wholeRefusal stream room =
+unfoldable pub whole_refusal : List ℕ → List ℕ → Whole
+whole_refusal stream room =
     first answered
     (given (ltb 65535 (length stream)) too_long ∷
     given (ltb 1024 (length (lines stream))) too_many ∷
-    given (ltb (length room) (33 * length (lines stream))) too-narrow ∷
+    given (ltb (length room) (33 * length (lines stream))) too_narrow ∷
     [])
 
 -- "answer room untouched"; "Otherwise one line for each frame ..; room after the last answer is untouched."
@@ -44,15 +44,15 @@ unfoldable pub returns : Whole → List ℕ → List ℕ → Served
 returns answered a room = record { code = pos (length a); room = a ++ drop (length a) room }
 returns too_long a room = record { code = negsuc 0; room = room }
 returns too_many a room = record { code = negsuc 1; room = room }
-returns too-narrow a room = record { code = negsuc 2; room = room }
+returns too_narrow a room = record { code = negsuc 2; room = room }
 
 -- the entry, if it had these answers
-unfoldable pub servedBy : (List ℕ → List ℕ) → List ℕ → List ℕ → Served
-servedBy answering stream room = returns (wholeRefusal stream room) (answering stream) room
+unfoldable pub served_by : (List ℕ → List ℕ) → List ℕ → List ℕ → Served
+served_by answering stream room = returns (whole_refusal stream room) (answering stream) room
 
 -- the entry
 unfoldable pub served : List ℕ → List ℕ → Served
-served stream room = servedBy answers stream room
+served stream room = served_by answers stream room
 
 -- the statement of the entry: the returned number and the whole room after the call are those of the definitions
 pub record Answers (stream room : List ℕ) (code : ℤ) (room' : List ℕ) : Type 0 where
@@ -64,6 +64,6 @@ pub record Stands (lines-before : List (List ℕ)) (answer room' : List ℕ) : T
   pub behind : List ℕ
   pub is : room' ≡ run nothing lines-before ++ (ended answer ++ behind)
 
-unfoldable pub stream-computes : Unit {0}
-unfolding run answers wholeRefusal returns servedBy served
-stream-computes = tt
+unfoldable pub stream_computes : Unit {0}
+unfolding run answers whole_refusal returns served_by served
+stream_computes = tt

@@ -5,42 +5,42 @@ use Rattle.std.proofs.Math.Option.{Option}
 use Rattle.whole.specs.Lists.{given, first, any, keep, numbered, lists, least}
 use Rattle.shell.specs.declared.Shape.{Shape}
 use Rattle.shell.specs.declared.Shape.TheVariants.{Whole, Few, Once, Often, Alike, Apart, Unlinked}
-use Rattle.ring.specs.Polygon.{Polygon, ringsOf, one, all, entriesOf, allRings}
-use Rattle.edges.specs.Edges.{edgesOf, smaller, larger, usedOnce, usedOften, usedAlike}
+use Rattle.ring.specs.Polygon.{Polygon, rings_of, one, all, entries_from, all_rings}
+use Rattle.edges.specs.Edges.{edges_of, smaller, larger, used_once, used_often, used_alike}
 use Rattle.reach.specs.Reach.{unreached}
 
 -- the column No.
-unfoldable pub shapeNumber : Shape → ℕ
-shapeNumber Whole = 0
-shapeNumber (Few n) = 7
-shapeNumber (Once a b) = 8
-shapeNumber (Often a b) = 9
-shapeNumber (Alike a b) = 10
-shapeNumber (Apart p) = 11
-shapeNumber (Unlinked v) = 12
+unfoldable pub shape_number_of : Shape → ℕ
+shape_number_of Whole = 0
+shape_number_of (Few n) = 7
+shape_number_of (Once a b) = 8
+shape_number_of (Often a b) = 9
+shape_number_of (Alike a b) = 10
+shape_number_of (Apart p) = 11
+shape_number_of (Unlinked v) = 12
 
 -- the column Element: a, and b ("Where the table names only a, b is 0")
-unfoldable pub shapeA : Shape → ℕ
-shapeA Whole = 0
-shapeA (Few n) = n
-shapeA (Once a b) = a
-shapeA (Often a b) = a
-shapeA (Alike a b) = a
-shapeA (Apart p) = p
-shapeA (Unlinked v) = v
+unfoldable pub shape_a_of : Shape → ℕ
+shape_a_of Whole = 0
+shape_a_of (Few n) = n
+shape_a_of (Once a b) = a
+shape_a_of (Often a b) = a
+shape_a_of (Alike a b) = a
+shape_a_of (Apart p) = p
+shape_a_of (Unlinked v) = v
 
-unfoldable pub shapeB : Shape → ℕ
-shapeB Whole = 0
-shapeB (Few n) = 0
-shapeB (Once a b) = b
-shapeB (Often a b) = b
-shapeB (Alike a b) = b
-shapeB (Apart p) = 0
-shapeB (Unlinked v) = 0
+unfoldable pub shape_b_of : Shape → ℕ
+shape_b_of Whole = 0
+shape_b_of (Few n) = 0
+shape_b_of (Once a b) = b
+shape_b_of (Often a b) = b
+shape_b_of (Alike a b) = b
+shape_b_of (Apart p) = 0
+shape_b_of (Unlinked v) = 0
 
 -- the polygons' numbers
-unfoldable pub polygonsOf : List Polygon → List ℕ
-polygonsOf ps = map (λ p. p.0) (numbered ps)
+unfoldable pub polygons_of : List Polygon → List ℕ
+polygons_of ps = map (λ p. p.0) (numbered ps)
 
 -- polygon p of a list
 abbrev pub nth : List Polygon → ℕ → Polygon
@@ -48,50 +48,50 @@ nth ps p = get_or ps p (one [])
 
 -- the edges of polygon p: "Edges of all rings count alike."
 unfoldable pub edges_at : List Polygon → ℕ → List ℕ
-edges_at ps p = all edgesOf (ringsOf (nth ps p))
+edges_at ps p = all edges_of (rings_of (nth ps p))
 
 -- two polygons share an edge of which a test holds
-unfoldable pub shareEdge : (ℕ → Bool) → List Polygon → ℕ → ℕ → Bool
-shareEdge t ps p q = any (λ e. t e && lists e (edges_at ps q)) (edges_at ps p)
+unfoldable pub share_edge : (ℕ → Bool) → List Polygon → ℕ → ℕ → Bool
+share_edge t ps p q = any (λ e. t e && lists e (edges_at ps q)) (edges_at ps p)
 
 -- 0B: "polygons not all reachable from polygon 0 across shared edges", the lowest one not reached
-unfoldable pub notReached : List Polygon → Option ℕ
-notReached ps = least (unreached (shareEdge (λ e. true) ps) (polygonsOf ps) 0)
+unfoldable pub not_reached : List Polygon → Option ℕ
+not_reached ps = least (unreached (share_edge (λ e. true) ps) (polygons_of ps) 0)
 
 -- an edge ends at a point
 unfoldable pub ends_at : ℕ → ℕ → Bool
 ends_at v e = eqb (smaller e) v || eqb (larger e) v
 
 -- "the polygons there": those of which some ring lists the point
-unfoldable pub polygonsAt : List Polygon → ℕ → List ℕ
-polygonsAt ps v = keep (λ p. lists v (entriesOf (nth ps p))) (polygonsOf ps)
+unfoldable pub polygons_at : List Polygon → ℕ → List ℕ
+polygons_at ps v = keep (λ p. lists v (entries_from (nth ps p))) (polygons_of ps)
 
 -- whether some of the polygons at v are not linked to the first of them across edges that end at v
-unfoldable pub unlinkedAt : List Polygon → ℕ → List ℕ → Bool
-unlinkedAt ps v [] = false
-unlinkedAt ps v (p ∷ l) = ltb 0 (length (unreached (shareEdge (ends_at v) ps) (p ∷ l) p))
+unfoldable pub unlinked_at : List Polygon → ℕ → List ℕ → Bool
+unlinked_at ps v [] = false
+unlinked_at ps v (p ∷ l) = ltb 0 (length (unreached (share_edge (ends_at v) ps) (p ∷ l) p))
 
 -- 0C: "at some used point, the polygons there aren't all linked across edges that end at it", the lowest such point
-unfoldable pub notLinked : List Polygon → Option ℕ
-notLinked ps = least (keep (λ v. unlinkedAt ps v (polygonsAt ps v)) (all (λ ring. ring) (allRings ps)))
+unfoldable pub not_linked : List Polygon → Option ℕ
+not_linked ps = least (keep (λ v. unlinked_at ps v (polygons_at ps v)) (all (λ ring. ring) (all_rings ps)))
 
 -- "An edge is reported as the smaller number a and the larger b"
-unfoldable pub byEnds : (ℕ → ℕ → Shape) → ℕ → Shape
-byEnds check e = check (smaller e) (larger e)
+unfoldable pub by_ends : (ℕ → ℕ → Shape) → ℕ → Shape
+by_ends check e = check (smaller e) (larger e)
 
 -- "these tried, in this order"
 unfoldable pub shape : List Polygon → Shape
 shape ps =
-    let rings = allRings ps in
+    let rings = all_rings ps in
     first Whole
     (given (ltb (length ps) 4) (Few (length ps)) ∷
-    Option.map (byEnds Once) (usedOnce rings) ∷
-    Option.map (byEnds Often) (usedOften rings) ∷
-    Option.map (byEnds Alike) (usedAlike rings) ∷
-    Option.map Apart (notReached ps) ∷
-    Option.map Unlinked (notLinked ps) ∷
+    Option.map (by_ends Once) (used_once rings) ∷
+    Option.map (by_ends Often) (used_often rings) ∷
+    Option.map (by_ends Alike) (used_alike rings) ∷
+    Option.map Apart (not_reached ps) ∷
+    Option.map Unlinked (not_linked ps) ∷
     [])
 
-unfoldable pub shell-computes : Unit {0}
-unfolding shapeNumber shapeA shapeB polygonsOf edges_at shareEdge notReached ends_at polygonsAt unlinkedAt notLinked byEnds shape
-shell-computes = tt
+unfoldable pub shell_computes : Unit {0}
+unfolding shape_number_of shape_a_of shape_b_of polygons_of edges_at share_edge not_reached ends_at polygons_at unlinked_at not_linked by_ends shape
+shell_computes = tt

@@ -1,6 +1,6 @@
 -- Points in space, exact: the sums, products and the determinant of which document 01 speaks in checks 04 to 06 and of the six-volume.
 use Rattle.std.specs.Prelude.{ℕ, Bool, ◌&&◌, List, map, get_or, ℤ, pos, ◌+ℤ◌, ◌-ℤ◌, ◌*ℤ◌}
-use Rattle.whole.specs.Lists.{sameZ}
+use Rattle.whole.specs.Lists.{same_z}
 
 -- a place, or the way from one place to another
 pub record Point : Type 0 where
@@ -17,8 +17,8 @@ unfoldable pub plus : Point → Point → Point
 plus p q = record { x = p.x +ℤ q.x; y = p.y +ℤ q.y; z = p.z +ℤ q.z }
 
 -- q relative to p
-unfoldable pub relativeTo : Point → Point → Point
-relativeTo p q = record { x = q.x -ℤ p.x; y = q.y -ℤ p.y; z = q.z -ℤ p.z }
+unfoldable pub relative_to : Point → Point → Point
+relative_to p q = record { x = q.x -ℤ p.x; y = q.y -ℤ p.y; z = q.z -ℤ p.z }
 
 -- the cross product
 unfoldable pub cross : Point → Point → Point
@@ -40,13 +40,13 @@ determinant a b c =
     +ℤ a.z *ℤ (b.x *ℤ c.y -ℤ b.y *ℤ c.x)
 
 -- whether two points are one place
-unfoldable pub samePlace : Point → Point → Bool
-samePlace p q = sameZ p.x q.x && sameZ p.y q.y && sameZ p.z q.z
+unfoldable pub same_place_of : Point → Point → Bool
+same_place_of p q = same_z p.x q.x && same_z p.y q.y && same_z p.z q.z
 
 -- where the points of a ring stand
 unfoldable pub places : List Point → List ℕ → List Point
 places points ring = map (λ n. get_or points n origin) ring
 
-unfoldable pub space-computes : Unit {0}
-unfolding origin plus relativeTo cross dot determinant samePlace places
-space-computes = tt
+unfoldable pub space_computes : Unit {0}
+unfolding origin plus relative_to cross dot determinant same_place_of places
+space_computes = tt

@@ -1,7 +1,7 @@
 // Places and ways in space: where points stand.
 ghost use Rattle.std.specs.Prelude.{◌≡◌, ◌+◌, ◌<◌, ◌≤◌, ◌*◌, get_or, pos};
-ghost use Rattle.space.specs.held.Points.{Coords, placeAt, asPoint, Near};
-ghost use Rattle.space.specs.Space.{relativeTo, dot};
+ghost use Rattle.space.specs.held.Points.{Coords, place_at, as_point, Near};
+ghost use Rattle.space.specs.Space.{relative_to, dot};
 
 // An axis of space; one is dropped for check 05.
 #[derive(Drop)]
@@ -30,7 +30,7 @@ fn long(x: i32) -> i64
 pub fn place_of(points: &[i32; 1536], p: u16) -> Place
     requires coords { Coords points.now }
     requires p_bound { p < 512 }
-    ensures { asPoint result ≡ placeAt points.now p }
+    ensures { as_point result ≡ place_at points.now p }
 {
     let i = 3 * (p as usize);
     let x = long(points[i]);
@@ -53,7 +53,7 @@ pub fn coordinate(points: &[i32; 1536], p: u16, k: usize) -> i64
 pub fn toward(points: &[i32; 1536], p: u16, q: u16) -> Place
     requires coords { Coords points.now }
     requires p_bound { (p < 512) × (q < 512) }
-    ensures { asPoint result ≡ relativeTo (placeAt points.now p) (placeAt points.now q) }
+    ensures { as_point result ≡ relative_to (place_at points.now p) (place_at points.now q) }
 {
     let a = place_of(points, p);
     let b = place_of(points, q);
@@ -71,8 +71,8 @@ pub fn toward(points: &[i32; 1536], p: u16, q: u16) -> Place
 
 // N·p, for a normal and a way.
 pub fn dot(a: Place, b: Place) -> i64
-    requires { (Near 10160000000000 (asPoint a)) × (Near 200000 (asPoint b)) }
-    ensures { result ≡ dot (asPoint a) (asPoint b) }
+    requires { (Near 10160000000000 (as_point a)) × (Near 200000 (as_point b)) }
+    ensures { result ≡ dot (as_point a) (as_point b) }
 {
     let ax = a.x;
     let ay = a.y;

@@ -2,8 +2,8 @@
 ghost use Rattle.std.specs.Prelude.{◌+◌, ◌≤◌, length};
 ghost use Rattle.lines.specs.Lines.{ended};
 ghost use Rattle.answer.specs.held.Wrote.{Wrote};
-ghost use Rattle.building.specs.held.Holds.{heldTables, Loaded, Kept};
-ghost use Rattle.service.specs.Service.{reportOf};
+ghost use Rattle.building.specs.held.Holds.{held_tables, Loaded, Kept};
+ghost use Rattle.service.specs.Service.{report_of};
 
 use building::Scalars;
 
@@ -23,7 +23,7 @@ pub fn put_report(
 ) -> usize
     requires from_in_bounds { from + 33 ≤ length room.old }
     requires loaded { (Loaded points.now entries.now starts.now firsts.now s) × (Kept points.now entries.now starts.now firsts.now findings.now parts.now table.now turned.now s) }
-    ensures { Wrote (ended (reportOf (heldTables points.now entries.now starts.now firsts.now s))) room.old from room.new result }
+    ensures { Wrote (ended (report_of (held_tables points.now entries.now starts.now firsts.now s))) room.old from room.new result }
 {
     let n = s.polygons;
     let faults = totals::faults_of(findings, n);

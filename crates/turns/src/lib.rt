@@ -8,15 +8,15 @@ ghost use Rattle.volume.specs.Part.{part};
 ghost use Rattle.polygon.specs.Ring.{finding};
 ghost use Rattle.inner.specs.Finding as Inner;
 ghost use Rattle.space.specs.held.Points.{points_of, Coords, Known};
-ghost use Rattle.ring.specs.Entries.{isUnclosed};
-ghost use Rattle.ring.specs.Polygon.{turnedOver};
-ghost use Rattle.ring.specs.held.Rings.{ringAt, polygonOf, polygonAt};
+ghost use Rattle.ring.specs.Entries.{is_unclosed};
+ghost use Rattle.ring.specs.Polygon.{turned_over};
+ghost use Rattle.ring.specs.held.Rings.{ring_at, polygon_of, polygon_at};
 ghost use Rattle.holes.specs.held.Rings.{Ring, Rings, Lies};
 ghost use Rattle.building.specs.Tables as Tables;
-ghost use Rattle.polygon.specs.held.Findings.{keptFinding, is_placed};
+ghost use Rattle.polygon.specs.held.Findings.{kept_finding, is_placed};
 ghost use Rattle.building.specs.held.Rings.{cut, Stands};
-ghost use Rattle.building.specs.held.Holds.{arrays, heldBuilding, Held, Did};
-ghost use Rattle.turns.specs.held.Rings.{turnedEntries};
+ghost use Rattle.building.specs.held.Holds.{arrays, held_building, Held, Did};
+ghost use Rattle.turns.specs.held.Rings.{turned_entries};
 ghost use Rattle.turns.specs.held.Writes.{TurnWrites};
 
 use building::Scalars;
@@ -40,7 +40,7 @@ fn reverse_in(entries: &mut [u16; 1024], from: usize, to: usize)
 // Ring q backwards in its place, "closing entry included".
 fn reverse_ring(entries: &mut [u16; 1024], starts: &[u16; 1025], q: usize)
     requires { Ring entries.old starts.now q }
-    ensures { entries.new ≡ sets entries.old (get_or starts.now q 0) (reverse (ringAt entries.old starts.now q)) }
+    ensures { entries.new ≡ sets entries.old (get_or starts.now q 0) (reverse (ring_at entries.old starts.now q)) }
 {
     let from = starts[q] as usize;
     let to = starts[q + 1] as usize;
@@ -50,7 +50,7 @@ fn reverse_ring(entries: &mut [u16; 1024], starts: &[u16; 1025], q: usize)
 // Every ring of the polygon of the rings `from` up to `to`, backwards in its place.
 fn reverse_rings(entries: &mut [u16; 1024], starts: &[u16; 1025], from: usize, to: usize)
     requires { Lies entries.old starts.now from to }
-    ensures { entries.new ≡ turnedEntries entries.old starts.now from to }
+    ensures { entries.new ≡ turned_entries entries.old starts.now from to }
 {
     let mut q = from;
     while q < to {
@@ -84,9 +84,9 @@ fn renew_part(
 )
     requires coords { Coords points.now }
     requires ring { Ring entries.now starts.now q }
-    requires parts_len { (length parts.old ≡ 256) × (get_or parts.old p (pos 0) ≡ part (points_of points.now) (reverse (ringAt entries.now starts.now q))) }
+    requires parts_len { (length parts.old ≡ 256) × (get_or parts.old p (pos 0) ≡ part (points_of points.now) (reverse (ring_at entries.now starts.now q))) }
     requires p_bound { p < 256 }
-    ensures { parts.new ≡ set parts.old p (part (points_of points.now) (ringAt entries.now starts.now q)) }
+    ensures { parts.new ≡ set parts.old p (part (points_of points.now) (ring_at entries.now starts.now q)) }
 {
     let from = starts[q] as usize;
     let to = starts[q + 1] as usize;
@@ -118,9 +118,9 @@ fn renew_finding(
     requires coords { Coords points.now }
     requires ring { Ring entries.now starts.now q }
     requires tolerance_bound { tolerance ≤ 1000 }
-    requires findings_len { (length findings.old ≡ 256) × (get_or findings.old p 0 ≡ keptFinding (finding tolerance (points_of points.now) (reverse (ringAt entries.now starts.now q)))) }
+    requires findings_len { (length findings.old ≡ 256) × (get_or findings.old p 0 ≡ kept_finding (finding tolerance (points_of points.now) (reverse (ring_at entries.now starts.now q)))) }
     requires p_bound { p < 256 }
-    ensures { findings.new ≡ set findings.old p (keptFinding (finding tolerance (points_of points.now) (ringAt entries.now starts.now q))) }
+    ensures { findings.new ≡ set findings.old p (kept_finding (finding tolerance (points_of points.now) (ring_at entries.now starts.now q))) }
 {
     let kept = findings[p];
     if !has_position(kept) {
@@ -148,12 +148,12 @@ fn turn_ring(
     requires coords { Coords points.now }
     requires ring { Ring entries.old starts.now q }
     requires tolerance_bound { tolerance ≤ 1000 }
-    requires findings_len { (length findings.old ≡ 256) × (get_or findings.old p 0 ≡ keptFinding (finding tolerance (points_of points.now) (ringAt entries.old starts.now q))) }
-    requires parts_len { (length parts.old ≡ 256) × (get_or parts.old p (pos 0) ≡ part (points_of points.now) (ringAt entries.old starts.now q)) }
+    requires findings_len { (length findings.old ≡ 256) × (get_or findings.old p 0 ≡ kept_finding (finding tolerance (points_of points.now) (ring_at entries.old starts.now q))) }
+    requires parts_len { (length parts.old ≡ 256) × (get_or parts.old p (pos 0) ≡ part (points_of points.now) (ring_at entries.old starts.now q)) }
     requires p_bound { p < 256 }
-    ensures entries_after { entries.new ≡ sets entries.old (get_or starts.now q 0) (reverse (ringAt entries.old starts.now q)) }
-    ensures findings_after { findings.new ≡ set findings.old p (keptFinding (finding tolerance (points_of points.now) (reverse (ringAt entries.old starts.now q)))) }
-    ensures parts_after { parts.new ≡ set parts.old p (part (points_of points.now) (reverse (ringAt entries.old starts.now q))) }
+    ensures entries_after { entries.new ≡ sets entries.old (get_or starts.now q 0) (reverse (ring_at entries.old starts.now q)) }
+    ensures findings_after { findings.new ≡ set findings.old p (kept_finding (finding tolerance (points_of points.now) (reverse (ring_at entries.old starts.now q)))) }
+    ensures parts_after { parts.new ≡ set parts.old p (part (points_of points.now) (reverse (ring_at entries.old starts.now q))) }
 {
     reverse_ring(entries, starts, q);
     renew_finding(points, entries, starts, findings, tolerance, p, q);
@@ -163,7 +163,7 @@ fn turn_ring(
 // Whether ring q is closed.
 fn ring_closed(entries: &[u16; 1024], starts: &[u16; 1025], q: usize) -> bool
     requires { Ring entries.now starts.now q }
-    ensures { result ≡ not (isUnclosed (ringAt entries.now starts.now q)) }
+    ensures { result ≡ not (is_unclosed (ring_at entries.now starts.now q)) }
 {
     let from = starts[q] as usize;
     let to = starts[q + 1] as usize;
@@ -174,7 +174,7 @@ fn ring_closed(entries: &[u16; 1024], starts: &[u16; 1025], q: usize) -> bool
 // Whether every ring from `from` up to `to` is closed.
 fn are_closed(entries: &[u16; 1024], starts: &[u16; 1025], from: usize, to: usize) -> bool
     requires { Rings entries.now starts.now from to }
-    ensures { result ≡ not (any isUnclosed (span (ringAt entries.now starts.now) from (to - from))) }
+    ensures { result ≡ not (any is_unclosed (span (ring_at entries.now starts.now) from (to - from))) }
 {
     let mut k = from;
     while k < to {
@@ -201,9 +201,9 @@ fn renew_place(
     requires coords { Coords points.now }
     requires lies { Lies entries.now starts.now from to }
     requires tolerance_bound { tolerance ≤ 1000 }
-    requires findings_len { (length findings.old ≡ 256) × (get_or findings.old p 0 ≡ keptFinding (Inner.finding tolerance (points_of points.now) (turnedOver (polygonOf entries.now starts.now from to)))) }
+    requires findings_len { (length findings.old ≡ 256) × (get_or findings.old p 0 ≡ kept_finding (Inner.finding tolerance (points_of points.now) (turned_over (polygon_of entries.now starts.now from to)))) }
     requires p_bound { p < 256 }
-    ensures { findings.new ≡ set findings.old p (keptFinding (Inner.finding tolerance (points_of points.now) (polygonOf entries.now starts.now from to))) }
+    ensures { findings.new ≡ set findings.old p (kept_finding (Inner.finding tolerance (points_of points.now) (polygon_of entries.now starts.now from to))) }
 {
     let kept = findings[p];
     if has_position(kept) {
@@ -240,8 +240,8 @@ fn look_anew(
     requires tolerance_bound { tolerance ≤ 1000 }
     requires findings_len { (length findings.old ≡ 256) × (length parts.old ≡ 256) }
     requires p_bound { p < 256 }
-    ensures findings_after { findings.new ≡ set findings.old p (keptFinding (Inner.finding tolerance (points_of points.now) (polygonOf entries.now starts.now from to))) }
-    ensures parts_after { parts.new ≡ set parts.old p (Inner.part (points_of points.now) (polygonOf entries.now starts.now from to)) }
+    ensures findings_after { findings.new ≡ set findings.old p (kept_finding (Inner.finding tolerance (points_of points.now) (polygon_of entries.now starts.now from to))) }
+    ensures parts_after { parts.new ≡ set parts.old p (Inner.part (points_of points.now) (polygon_of entries.now starts.now from to)) }
 {
     let look = inner::look_at_several(points, entries, starts, from, to, tolerance);
     let kept = look.kept;
@@ -266,12 +266,12 @@ fn turn_rings(
     requires coords { Coords points.now }
     requires lies { Lies entries.old starts.now from to }
     requires tolerance_bound { tolerance ≤ 1000 }
-    requires findings_len { (length findings.old ≡ 256) × (get_or findings.old p 0 ≡ keptFinding (Inner.finding tolerance (points_of points.now) (polygonOf entries.old starts.now from to))) }
-    requires parts_len { (length parts.old ≡ 256) × (get_or parts.old p (pos 0) ≡ Inner.part (points_of points.now) (polygonOf entries.old starts.now from to)) }
+    requires findings_len { (length findings.old ≡ 256) × (get_or findings.old p 0 ≡ kept_finding (Inner.finding tolerance (points_of points.now) (polygon_of entries.old starts.now from to))) }
+    requires parts_len { (length parts.old ≡ 256) × (get_or parts.old p (pos 0) ≡ Inner.part (points_of points.now) (polygon_of entries.old starts.now from to)) }
     requires p_bound { p < 256 }
-    ensures entries_after { entries.new ≡ turnedEntries entries.old starts.now from to }
-    ensures findings_after { findings.new ≡ set findings.old p (keptFinding (Inner.finding tolerance (points_of points.now) (turnedOver (polygonOf entries.old starts.now from to)))) }
-    ensures parts_after { parts.new ≡ set parts.old p (Inner.part (points_of points.now) (turnedOver (polygonOf entries.old starts.now from to))) }
+    ensures entries_after { entries.new ≡ turned_entries entries.old starts.now from to }
+    ensures findings_after { findings.new ≡ set findings.old p (kept_finding (Inner.finding tolerance (points_of points.now) (turned_over (polygon_of entries.old starts.now from to)))) }
+    ensures parts_after { parts.new ≡ set parts.old p (Inner.part (points_of points.now) (turned_over (polygon_of entries.old starts.now from to))) }
 {
     let closed = are_closed(entries, starts, from, to);
     reverse_rings(entries, starts, from, to);
@@ -299,11 +299,11 @@ fn turn_over(
     requires coords { Coords points.now }
     requires stands { Stands entries.old starts.now firsts.now p }
     requires tolerance_bound { tolerance ≤ 1000 }
-    requires findings_len { (length findings.old ≡ 256) × (get_or findings.old p 0 ≡ keptFinding (Inner.finding tolerance (points_of points.now) (polygonAt entries.old starts.now firsts.now p))) }
-    requires parts_len { (length parts.old ≡ 256) × (get_or parts.old p (pos 0) ≡ Inner.part (points_of points.now) (polygonAt entries.old starts.now firsts.now p)) }
-    ensures entries_after { entries.new ≡ turnedEntries entries.old starts.now (get_or firsts.now p 0) (get_or firsts.now (p + 1) 0) }
-    ensures findings_after { findings.new ≡ set findings.old p (keptFinding (Inner.finding tolerance (points_of points.now) (turnedOver (polygonAt entries.old starts.now firsts.now p)))) }
-    ensures parts_after { parts.new ≡ set parts.old p (Inner.part (points_of points.now) (turnedOver (polygonAt entries.old starts.now firsts.now p))) }
+    requires findings_len { (length findings.old ≡ 256) × (get_or findings.old p 0 ≡ kept_finding (Inner.finding tolerance (points_of points.now) (polygon_at entries.old starts.now firsts.now p))) }
+    requires parts_len { (length parts.old ≡ 256) × (get_or parts.old p (pos 0) ≡ Inner.part (points_of points.now) (polygon_at entries.old starts.now firsts.now p)) }
+    ensures entries_after { entries.new ≡ turned_entries entries.old starts.now (get_or firsts.now p 0) (get_or firsts.now (p + 1) 0) }
+    ensures findings_after { findings.new ≡ set findings.old p (kept_finding (Inner.finding tolerance (points_of points.now) (turned_over (polygon_at entries.old starts.now firsts.now p)))) }
+    ensures parts_after { parts.new ≡ set parts.old p (Inner.part (points_of points.now) (turned_over (polygon_at entries.old starts.now firsts.now p))) }
 {
     let from = firsts[p] as usize;
     let to = firsts[p + 1] as usize;
@@ -333,7 +333,7 @@ pub fn turn_polygon(
 ) -> Scalars
     requires held { Held (arrays points.now entries.old starts.now firsts.now stamps.old findings.old parts.old table.now turned.old) s }
     requires n_lt_polygons { n < s.polygons }
-    ensures did { Did (Tables.turned number n (heldBuilding (arrays points.now entries.old starts.now firsts.now stamps.old findings.old parts.old table.now turned.old) s)) (arrays points.now entries.new starts.now firsts.now stamps.new findings.new parts.new table.now turned.new) result }
+    ensures did { Did (Tables.turned number n (held_building (arrays points.now entries.old starts.now firsts.now stamps.old findings.old parts.old table.now turned.old) s)) (arrays points.now entries.new starts.now firsts.now stamps.new findings.new parts.new table.now turned.new) result }
     ensures turn_writes { TurnWrites (arrays points.now entries.old starts.now firsts.now stamps.old findings.old parts.old table.now turned.old) s number n entries.new stamps.new findings.new parts.new turned.new result }
 {
     let tolerance = s.tolerance;

@@ -14,10 +14,10 @@ use Rattle.whole.specs.Lists.{keep}
 use Rattle.whole.specs.laws.Places.{map_at}
 use Rattle.edges.specs.Edges.{edge, way}
 use Rattle.edges.specs.held.Ascending.{Asc}
-use Rattle.edges.specs.laws.Ascending.{places-asc}
-use Rattle.words.specs.held.Words.{keyOf, polyOf}
-use Rattle.shell.specs.laws.Pairs.{ofEdge}
-use Rattle.users.specs.held.Users.{usersIn, Halving, Bound, UserAt, Told}
+use Rattle.edges.specs.laws.Ascending.{places_asc}
+use Rattle.words.specs.held.Words.{key_from, poly_from}
+use Rattle.shell.specs.laws.Pairs.{of_edge}
+use Rattle.users.specs.held.Users.{users_in, Halving, Bound, UserAt, Told}
 use Rattle.users.specs.laws.Keeps.{keep_append, keep-none, keep_all}
 
 -- ---- the edge between two points
@@ -31,44 +31,44 @@ edge-down a b h = omega arith
 
 -- ---- the search
 module _ (words : List ℕ) (e : ℕ) where
-  pub halving-none : (n : ℕ) → n ≡ length words → Halving words e 0 n
-  halving-none n z = record { order = omega arith; within = omega arith; below = λ i h. absurd (omega arith); above = λ i h g. absurd (omega arith) }
+  pub halving_none : (n : ℕ) → n ≡ length words → Halving words e 0 n
+  halving_none n z = record { order = omega arith; within = omega arith; below = λ i h. absurd (omega arith); above = λ i h g. absurd (omega arith) }
 
   -- from where the words of edge e begin, those of the next edge are looked for: up to the end, or up to a word that is past e
   module _ (from : ℕ) (b : Bound words e from) where
     pub halving-rest : (n : ℕ) → n ≡ length words → Halving words (e + 1) from n
     halving-rest n z = record { order = omega (arith, b.within); within = omega arith; below = λ i h. omega (arith, b.below i h); above = λ i h g. absurd (omega arith) }
 
-    pub halving-few : Asc words → (hi : ℕ) → from ≤ hi → hi < length words → e < keyOf (get_or words hi 0) → Halving words (e + 1) from hi
+    pub halving-few : Asc words → (hi : ℕ) → from ≤ hi → hi < length words → e < key_from (get_or words hi 0) → Halving words (e + 1) from hi
     halving-few a hi g h t =
         record {
           order = g;
           within = omega arith;
           below = λ i k. omega (arith, b.below i k);
-          above = λ i k l. let q : get_or words hi 0 ≤ get_or words i 0 = places-asc words a hi i k l in omega arith;
+          above = λ i k l. let q : get_or words hi 0 ≤ get_or words i 0 = places_asc words a hi i k l in omega arith;
         }
 
   module _ (a : Asc words) (lo hi : ℕ) (s : Halving words e lo hi) (mid : ℕ) (g : lo ≤ mid) (h : mid < hi) where
-    pub halving-up : keyOf (get_or words mid 0) < e → Halving words e (mid + 1) hi
+    pub halving-up : key_from (get_or words mid 0) < e → Halving words e (mid + 1) hi
     halving-up t =
         record {
           order = omega arith;
           within = s.within;
-          below = λ i b. let k : get_or words i 0 ≤ get_or words mid 0 = places-asc words a i mid (omega arith) (omega (arith, s.within)) in omega arith;
+          below = λ i b. let k : get_or words i 0 ≤ get_or words mid 0 = places_asc words a i mid (omega arith) (omega (arith, s.within)) in omega arith;
           above = s.above;
         }
 
-    pub halving-down : e ≤ keyOf (get_or words mid 0) → Halving words e lo mid
+    pub halving-down : e ≤ key_from (get_or words mid 0) → Halving words e lo mid
     halving-down t =
         record {
           order = g;
           within = omega (arith, s.within);
           below = s.below;
-          above = λ i b c. let k : get_or words mid 0 ≤ get_or words i 0 = places-asc words a mid i b c in omega arith;
+          above = λ i b c. let k : get_or words mid 0 ≤ get_or words i 0 = places_asc words a mid i b c in omega arith;
         }
 
-  pub halving-done : (lo hi : ℕ) → Halving words e lo hi → hi ≤ lo → Bound words e lo
-  halving-done lo hi s h =
+  pub halving_done : (lo hi : ℕ) → Halving words e lo hi → hi ≤ lo → Bound words e lo
+  halving_done lo hi s h =
       record { within = omega (arith, s.order, s.within); below = s.below; above = λ i b c. s.above i (omega (arith, s.order)) c }
 
 -- ---- the words of one edge stand between two bounds
@@ -87,55 +87,55 @@ module _ (words : List ℕ) (e from to : ℕ) (a : Bound words e from) (b : Boun
   pub ordered : from ≤ to
   ordered = by_cases (dec_lt to from) (λ h. let x = a.below to h in let y = b.above to (le_refl to) (omega (arith, a.within)) in absurd (omega arith)) (λ h. omega arith)
 
-  kept : keep (ofEdge e) words ≡ between from to words
+  kept : keep (of_edge e) words ≡ between from to words
   kept =
-      let low : keep (ofEdge e) (take from words) ≡ [] = keep-none (ofEdge e) (take from words) (λ i h. before i (rw length-take at h)) in
-      let high : keep (ofEdge e) (drop to words) ≡ [] = keep-none (ofEdge e) (drop to words) (λ i h. behind i (rw length-drop at h)) in
-      let mid : keep (ofEdge e) (between from to words) ≡ between from to words = keep_all (ofEdge e) (between from to words) (λ i h. inside i (rw (length-take, length-drop) at h)) in
-      ap (keep (ofEdge e)) (split from to words ordered)
-      ∙ keep_append (ofEdge e) (take from words) (between from to words ++ drop to words)
-      ∙ ap₂ (λ (x y : List ℕ). x ++ y) low (keep_append (ofEdge e) (between from to words) (drop to words) ∙ ap₂ (λ (x y : List ℕ). x ++ y) mid high)
+      let low : keep (of_edge e) (take from words) ≡ [] = keep-none (of_edge e) (take from words) (λ i h. before i (rw length-take at h)) in
+      let high : keep (of_edge e) (drop to words) ≡ [] = keep-none (of_edge e) (drop to words) (λ i h. behind i (rw length-drop at h)) in
+      let mid : keep (of_edge e) (between from to words) ≡ between from to words = keep_all (of_edge e) (between from to words) (λ i h. inside i (rw (length-take, length-drop) at h)) in
+      ap (keep (of_edge e)) (split from to words ordered)
+      ∙ keep_append (of_edge e) (take from words) (between from to words ++ drop to words)
+      ∙ ap₂ (λ (x y : List ℕ). x ++ y) low (keep_append (of_edge e) (between from to words) (drop to words) ∙ ap₂ (λ (x y : List ℕ). x ++ y) mid high)
       ∙ append-nil (between from to words)
     where
-      before : (i : ℕ) → i < min from (length words) → ofEdge e (get_or (take from words) i 0) ≡ false
+      before : (i : ℕ) → i < min from (length words) → of_edge e (get_or (take from words) i 0) ≡ false
       before i h =
           let k : i < from = omega arith in
-          ap (ofEdge e) (get_or-take from words i 0 k) ∙ ne_eqb e (keyOf (get_or words i 0)) (λ q. let x = a.below i k in omega arith)
+          ap (of_edge e) (get_or-take from words i 0 k) ∙ ne_eqb e (key_from (get_or words i 0)) (λ q. let x = a.below i k in omega arith)
 
-      behind : (i : ℕ) → i < length words - to → ofEdge e (get_or (drop to words) i 0) ≡ false
+      behind : (i : ℕ) → i < length words - to → of_edge e (get_or (drop to words) i 0) ≡ false
       behind i h =
-          ap (ofEdge e) (get_or-drop to words i 0) ∙ ne_eqb e (keyOf (get_or words (to + i) 0)) (λ q. let x = b.above (to + i) (omega arith) (omega arith) in omega arith)
+          ap (of_edge e) (get_or-drop to words i 0) ∙ ne_eqb e (key_from (get_or words (to + i) 0)) (λ q. let x = b.above (to + i) (omega arith) (omega arith) in omega arith)
 
-      inside : (i : ℕ) → i < min (to - from) (length words - from) → ofEdge e (get_or (between from to words) i 0) ≡ true
+      inside : (i : ℕ) → i < min (to - from) (length words - from) → of_edge e (get_or (between from to words) i 0) ≡ true
       inside i h =
           let k : i < to - from = omega arith in
           let x = a.above (from + i) (omega arith) (omega (arith, b.within)) in
           let y = b.below (from + i) (omega arith) in
-          ap (ofEdge e) (get_or-take (to - from) (drop from words) i 0 k ∙ get_or-drop from words i 0) ∙ eq-eqb e (keyOf (get_or words (from + i) 0)) (omega arith)
+          ap (of_edge e) (get_or-take (to - from) (drop from words) i 0 k ∙ get_or-drop from words i 0) ∙ eq-eqb e (key_from (get_or words (from + i) 0)) (omega arith)
 
   -- so the users are the polygons of the words between
-  users-between : usersIn e words ≡ map polyOf (between from to words)
-  unfolding usersIn
-  users-between = ap (map polyOf) kept
+  users_between : users_in e words ≡ map poly_from (between from to words)
+  unfolding users_in
+  users_between = ap (map poly_from) kept
 
   length-between : length (between from to words) ≡ to - from
   length-between = length-take-le (to - from) (drop from words) (simp length-drop (omega (arith, b.within)))
 
-  users-count : length (usersIn e words) ≡ to - from
-  users-count = ap length users-between ∙ length-map (between from to words) polyOf ∙ length-between
+  users_count : length (users_in e words) ≡ to - from
+  users_count = ap length users_between ∙ length-map (between from to words) poly_from ∙ length-between
 
-  some-user : (i d : ℕ) → from + i < to → get_or (usersIn e words) i d ≡ polyOf (get_or words (from + i) 0)
-  some-user i d h =
+  some_user : (i d : ℕ) → from + i < to → get_or (users_in e words) i d ≡ poly_from (get_or words (from + i) 0)
+  some_user i d h =
       let k : i < to - from = omega arith in
-      ap (λ (l : List ℕ). get_or l i d) users-between
-      ∙ map_at polyOf (between from to words) i 0 d (omega (arith, length-between))
-      ∙ ap polyOf (get_or-take (to - from) (drop from words) i 0 k ∙ get_or-drop from words i 0)
+      ap (λ (l : List ℕ). get_or l i d) users_between
+      ∙ map_at poly_from (between from to words) i 0 d (omega (arith, length-between))
+      ∙ ap poly_from (get_or-take (to - from) (drop from words) i 0 k ∙ get_or-drop from words i 0)
 
-  no-user : (i d : ℕ) → (from + i < to → ⊥) → get_or (usersIn e words) i d ≡ d
-  no-user i d h = get_or-eq_default (usersIn e words) d (omega (arith, users-count))
+  no_user : (i d : ℕ) → (from + i < to → ⊥) → get_or (users_in e words) i d ≡ d
+  no_user i d h = get_or-eq_default (users_in e words) d (omega (arith, users_count))
 
-  user-is : (i r : ℕ) → UserAt words (from + i) to r → r ≡ get_or (usersIn e words) i 65535
-  user-is i r u = by_cases (dec_lt (from + i) to) (λ h. u.inside h ∙ sym (some-user i 65535 h)) (λ h. u.outside (omega arith) ∙ sym (no-user i 65535 h))
+  user_is : (i r : ℕ) → UserAt words (from + i) to r → r ≡ get_or (users_in e words) i 65535
+  user_is i r u = by_cases (dec_lt (from + i) to) (λ h. u.inside h ∙ sym (some_user i 65535 h)) (λ h. u.outside (omega arith) ∙ sym (no_user i 65535 h))
 
-  pub told_of : (x y : ℕ) → UserAt words from to x → UserAt words (from + 1) to y → Told (usersIn e words) (to - from) x y
-  told_of x y u v = record { count-is = sym users-count; lowest-is = user-is 0 x (rw add-zero u); second_is = user-is 1 y v }
+  pub told_of : (x y : ℕ) → UserAt words from to x → UserAt words (from + 1) to y → Told (users_in e words) (to - from) x y
+  told_of x y u v = record { count_is = sym users_count; lowest_is = user_is 0 x (rw add-zero u); second_is = user_is 1 y v }

@@ -3,7 +3,7 @@
 ghost use Rattle.std.specs.Prelude.{◌≡◌, ◌+◌, ◌<◌, ◌≤◌, length, take};
 ghost use Rattle.edges.specs.Edges.{edge};
 ghost use Rattle.edges.specs.held.Ascending.{Asc};
-ghost use Rattle.users.specs.held.Users.{usersIn, Halving, Bound, UserAt, Told};
+ghost use Rattle.users.specs.held.Users.{users_in, Halving, Bound, UserAt, Told};
 
 // The number of users of an edge and the two lowest, 65,535 where there is none.
 #[derive(Drop)]
@@ -73,7 +73,7 @@ fn user_at(words: &[u64], i: usize, end: usize) -> usize
 // "Frame 0C asks for two point numbers in either order": the users of the edge between them, where `table` begins with `count` words.
 pub fn users_of(table: &[u64; 1024], count: usize, a: u16, b: u16) -> Users
     requires { (count ≤ 1024) × (length table.now ≡ 1024) × Asc (take count table.now) }
-    ensures { Told (usersIn (edge a b) (take count table.now)) result.count result.lowest result.second }
+    ensures { Told (users_in (edge a b) (take count table.now)) result.count result.lowest result.second }
 {
     let all = &table[..];
     let words = &all[..count];

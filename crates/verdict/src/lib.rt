@@ -1,14 +1,14 @@
 // Document 01's number of the check that a verdict names.
 ghost use Rattle.std.specs.Prelude.{◌≡◌};
-ghost use Rattle.shell.specs.Shell.{shapeNumber};
-ghost use Rattle.building.specs.Report.{checkNumber};
+ghost use Rattle.shell.specs.Shell.{shape_number_of};
+ghost use Rattle.building.specs.Report.{check_number_of};
 
 use building::Verdict;
 use shell::Shape;
 
 // Document 01's number of the check that a shape names.
 pub fn shape_number(s: Shape) -> u8
-    ensures { result ≡ shapeNumber s }
+    ensures { result ≡ shape_number_of s }
 {
     match s {
         Shape::Whole => 0,
@@ -23,7 +23,7 @@ pub fn shape_number(s: Shape) -> u8
 
 // The number of the check that a verdict names.
 pub fn check_number(v: Verdict) -> u8
-    ensures { result ≡ checkNumber v }
+    ensures { result ≡ check_number_of v }
 {
     match v {
         Verdict::Accepted => 0,

@@ -3,7 +3,7 @@ use Prim.Native.Nat.{ℕ, zero, suc}
 use mathlib.Core.List.{List, [], ◌∷◌}
 use lib.IntN.{ℤ}
 use mir.Syntax.{w64}
-use Rattle.whole.specs.laws.Size.{small-zero}
+use Rattle.whole.specs.laws.Size.{small_zero}
 use Rattle.whole.specs.laws.Mach.{Leaf, whole}
 use Rattle.space.specs.Space.{Point}
 use Rattle.space.specs.held.Points.{at, Near}
@@ -22,4 +22,4 @@ rows-three {a} {b} {c} {d} {e} {f} {g} {h} {i} p q r = record { each = each }
     each zero = p
     each (suc zero) = q
     each (suc (suc zero)) = r
-    each (suc (suc (suc k))) = record { x = small-zero; y = small-zero; z = small-zero }
+    each (suc (suc (suc k))) = record { x = small_zero; y = small_zero; z = small_zero }

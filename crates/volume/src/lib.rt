@@ -1,6 +1,6 @@
 // A polygon's part of the six-volume.
 ghost use Rattle.std.specs.Prelude.{◌≡◌, ◌<◌};
-ghost use Rattle.space.specs.held.Points.{points_of, Coords, Known, placeAt, at};
+ghost use Rattle.space.specs.held.Points.{points_of, Coords, Known, place_at, at};
 ghost use Rattle.space.specs.Space.{determinant};
 ghost use Rattle.volume.specs.held.Rows.{row_of, Rows, Nine};
 ghost use Rattle.volume.specs.Part.{part};
@@ -34,7 +34,7 @@ fn determinant(m: [[i64; 3]; 3]) -> i64
 fn determinant_of(points: &[i32; 1536], first: u16, p: u16, q: u16) -> i64
     requires coords { Coords points.now }
     requires first_bound { (first < 512) × (p < 512) × (q < 512) }
-    ensures { result ≡ determinant (placeAt points.now first) (placeAt points.now p) (placeAt points.now q) }
+    ensures { result ≡ determinant (place_at points.now first) (place_at points.now p) (place_at points.now q) }
 {
     let a = space::place_of(points, first);
     let b = space::place_of(points, p);

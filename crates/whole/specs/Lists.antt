@@ -9,10 +9,10 @@ module _ {A : Type 0} where
   given false a = none
 
   -- the first row that is given, if one is
-  unfoldable pub firstGiven : List (Option A) → Option A
-  firstGiven [] = none
-  firstGiven (none ∷ l) = firstGiven l
-  firstGiven (some b ∷ l) = some b
+  unfoldable pub first_given : List (Option A) → Option A
+  first_given [] = none
+  first_given (none ∷ l) = first_given l
+  first_given (some b ∷ l) = some b
 
   -- the first row that is given; where none is, a
   unfoldable pub first : A → List (Option A) → A
@@ -26,9 +26,9 @@ module _ {A : Type 0} where
   any t (x ∷ l) = elim (t x) [ true ↦ true | false ↦ any t l ]
 
   -- the least index, counted from 0, of one of a list that a test holds of; where there is none, the list's length
-  unfoldable pub leastIndex : (A → Bool) → List A → ℕ
-  leastIndex t [] = 0
-  leastIndex t (x ∷ l) = elim (t x) [ true ↦ 0 | false ↦ suc (leastIndex t l) ]
+  unfoldable pub least_index : (A → Bool) → List A → ℕ
+  least_index t [] = 0
+  least_index t (x ∷ l) = elim (t x) [ true ↦ 0 | false ↦ suc (least_index t l) ]
 
   -- how many of a list a test holds of
   unfoldable pub tally : (A → Bool) → List A → ℕ
@@ -41,19 +41,19 @@ module _ {A : Type 0} where
   keep t (x ∷ l) = elim (t x) [ true ↦ x ∷ keep t l | false ↦ keep t l ]
 
   -- whether two of a list, one before the other, are so related
-  unfoldable pub anyTwo : (A → A → Bool) → List A → Bool
-  anyTwo r [] = false
-  anyTwo r (x ∷ l) = elim (any (r x) l) [ true ↦ true | false ↦ anyTwo r l ]
+  unfoldable pub any_two : (A → A → Bool) → List A → Bool
+  any_two r [] = false
+  any_two r (x ∷ l) = elim (any (r x) l) [ true ↦ true | false ↦ any_two r l ]
 
   -- consecutive entries, where a stands before the list
-  unfoldable pub stepsFrom : A → List A → List (A × A)
-  stepsFrom a [] = []
-  stepsFrom a (b ∷ l) = (a, b) ∷ stepsFrom b l
+  unfoldable pub steps_from : A → List A → List (A × A)
+  steps_from a [] = []
+  steps_from a (b ∷ l) = (a, b) ∷ steps_from b l
 
   -- consecutive entries: each with the next
   unfoldable pub steps : List A → List (A × A)
   steps [] = []
-  steps (a ∷ l) = stepsFrom a l
+  steps (a ∷ l) = steps_from a l
 
   -- a list without its last
   unfoldable pub front : List A → List A
@@ -78,12 +78,12 @@ module _ {A : Type 0} where
   tab f (suc n) = tab f n ++ (f n ∷ [])
 
   -- each with its number, the first being n
-  unfoldable pub numberedFrom : ℕ → List A → List (ℕ × A)
-  numberedFrom n [] = []
-  numberedFrom n (x ∷ l) = (n, x) ∷ numberedFrom (suc n) l
+  unfoldable pub numbered_from : ℕ → List A → List (ℕ × A)
+  numbered_from n [] = []
+  numbered_from n (x ∷ l) = (n, x) ∷ numbered_from (suc n) l
 
   unfoldable pub numbered : List A → List (ℕ × A)
-  numbered l = numberedFrom 0 l
+  numbered l = numbered_from 0 l
 
   -- a sum over a list
   unfoldable pub sum_of : (A → ℤ) → List A → ℤ
@@ -100,13 +100,13 @@ least [] = none
 least (x ∷ l) = elim (least l) [ none ↦ some x | some y ↦ some (min x y) ]
 
 -- whether two whole numbers are the same
-unfoldable pub sameZ : ℤ → ℤ → Bool
-sameZ (pos a) (pos b) = eqb a b
-sameZ (pos a) (negsuc b) = false
-sameZ (negsuc a) (pos b) = false
-sameZ (negsuc a) (negsuc b) = eqb a b
+unfoldable pub same_z : ℤ → ℤ → Bool
+same_z (pos a) (pos b) = eqb a b
+same_z (pos a) (negsuc b) = false
+same_z (negsuc a) (pos b) = false
+same_z (negsuc a) (negsuc b) = eqb a b
 
 -- all of the above computes
-unfoldable pub lists-compute : Unit {0}
-unfolding given firstGiven first any leastIndex tally keep anyTwo stepsFrom steps front last_of at tab numberedFrom numbered sum_of lists least sameZ
-lists-compute = tt
+unfoldable pub lists_compute : Unit {0}
+unfolding given first_given first any least_index tally keep any_two steps_from steps front last_of at tab numbered_from numbered sum_of lists least same_z
+lists_compute = tt

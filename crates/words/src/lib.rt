@@ -1,11 +1,11 @@
 // What a word of the edge table tells of its edge and of the nodes that it joins, and where the other word of its pair stands.
 
 ghost use Rattle.std.specs.Prelude.{◌≡◌, ◌<◌};
-ghost use Rattle.words.specs.held.Words.{keyOf, node_of, Mate};
+ghost use Rattle.words.specs.held.Words.{key_from, node_of, Mate};
 
 // The edge that a word is of.
 pub fn key_of(w: u64) -> u64
-    ensures { result ≡ keyOf w }
+    ensures { result ≡ key_from w }
 {
     w / 536870912
 }

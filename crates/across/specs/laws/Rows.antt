@@ -5,22 +5,22 @@ use Rattle.std.proofs.Common.{◌∙◌, le-leb, eq-eqb, ne_eqb}
 use Rattle.std.proofs.lemmas.Bool.{lt-leb}
 use Rattle.whole.specs.Lists.{given, first}
 use Rattle.frame.specs.Frame.{across}
-use Rattle.building.specs.held.Holds.{Arrays, heldBuilding}
+use Rattle.building.specs.held.Holds.{Arrays, held_building}
 use Rattle.building.specs.laws.Load.{tables-points}
 use Rattle.service.specs.declared.Refusal.{Refusal}
 use Rattle.service.specs.declared.Refusal.TheVariants.{Accepted, Misplaced, Absent}
-use Rattle.service.specs.Service.{State, isMalformed, isMisplaced, refusal, isAccepted}
-use Rattle.service.specs.laws.Handlers.{of-across}
+use Rattle.service.specs.Service.{State, is_malformed, is_misplaced_of, refusal, is_accepted_of}
+use Rattle.service.specs.laws.Handlers.{of_across_lem}
 use Rattle.desk.specs.declared.Desk.{Desk}
 use Rattle.modes.specs.held.Mode.{holds}
 use Rattle.desk.specs.held.Holds.{service, Valid}
-use Rattle.desk.specs.laws.Rows.{service-holds, refused, not-holding}
+use Rattle.desk.specs.laws.Rows.{service-holds, refused, not_holding}
 use Rattle.across.specs.held.Across.{AcrossRow}
 
 module _ (d : Desk) (m n : ℕ) where
   pub across-misplaced : holds d.mode ≡ false → AcrossRow d m n Misplaced
-  unfolding isMalformed isMisplaced
-  across-misplaced e = not-holding refl (λ st. refl) e
+  unfolding is_malformed is_misplaced_of
+  across-misplaced e = not_holding refl (λ st. refl) e
 
   module _ (l : holds d.mode ≡ true) where
     -- the one row that is left, by its three tests
@@ -28,14 +28,14 @@ module _ (d : Desk) (m n : ℕ) where
     rows x y z = first Accepted (given (x || y || z) Absent ∷ [])
 
     across-rows : (a : Arrays) → Valid a d → refusal (service a d) (across m n) ≡ rows (leb d.held.points m) (leb d.held.points n) (eqb m n)
-    unfolding heldBuilding rows
+    unfolding held_building rows
     across-rows a v =
         ap (λ (st : State). refusal st (across m n)) (service-holds a d l)
-        ∙ of-across (heldBuilding a d.held) m n
+        ∙ of_across_lem (held_building a d.held) m n
         ∙ ap (λ (k : ℕ). rows (leb k m) (leb k n) (eqb m n)) (tables-points v.loaded)
 
     absent_by : (x y z : Bool) → leb d.held.points m ≡ x → leb d.held.points n ≡ y → eqb m n ≡ z → (x || y || z) ≡ true → AcrossRow d m n Absent
-    unfolding isAccepted first given rows
+    unfolding is_accepted_of first given rows
     absent_by x y z p q s e = refused Absent refl (λ a _ v. sym (across-rows a v ∙ (λ i. rows (p i) (q i) (s i)) ∙ ap (λ (b : Bool). first Accepted (given b Absent ∷ [])) e))
 
     pub first_absent : d.held.points ≤ m → AcrossRow d m n Absent
@@ -50,7 +50,7 @@ module _ (d : Desk) (m n : ℕ) where
         equal-absent e = absent_by false false true (lt-leb d.held.points m f) (lt-leb d.held.points n s) (eq-eqb m n e) refl
 
         pub across-accepted : (m ≡ n → ⊥) → AcrossRow d m n Accepted
-        unfolding isAccepted first given rows
+        unfolding is_accepted_of first given rows
         across-accepted e =
             record {
               is = λ a _ v. sym (across-rows a v ∙ (λ i. rows (lt-leb d.held.points m f i) (lt-leb d.held.points n s i) (ne_eqb m n e i)));

@@ -1,14 +1,14 @@
 -- `amend::move_point` meets its contract.
 use Rattle.desk.specs.held.Holds.{service}
-use Rattle.service.specs.Service.{refusal, isAccepted}
+use Rattle.service.specs.Service.{refusal, is_accepted_of}
 use Rattle.building.specs.held.Holds.{Arrays, arrays}
 use Rattle.desk.specs.laws.Rows.{seen}
-use Rattle.desk.specs.laws.Dids.{valid-held, did-refused}
-use Rattle.amend.specs.laws.Dids.{move-holds, move-known, move-near, did-move}
+use Rattle.desk.specs.laws.Dids.{valid_held, did_refused}
+use Rattle.amend.specs.laws.Dids.{move_holds, move_known, move_near, did_move}
 use Rattle.frame.specs.Frame.{move}
 use mathlib.Core.Bool.{true}
 use Rattle.space.specs.Space.{Point}
-use Rattle.places.specs.Points.{isFar}
+use Rattle.places.specs.Points.{is_far_of}
 use mir.Facts.{to_z-of_z}
 use mathlib.Core.Path.{◌≡◌, refl, sym, ◌∙◌}
 use borrow.Author.Rules.{rules}
@@ -26,9 +26,9 @@ move-point-requires c κs =
     let g = c.before.before.before.before.before.before.before.before.before.before.args in
     let v = c.before.before.before.before.before.before.before.before.before.before.requires.1 in
     let w : Arrays = arrays g.points.now g.entries.now g.starts.now g.firsts.now g.stamps.now g.findings.now g.parts.now g.table.now g.turned.now in
-    let t : isAccepted c.before.before.before.before.before.before.before.of-move.result ≡ true = (sym c.before.before.before.before.before.before.is-accepted.ensures ∙ c.before.before.before.before.before.if1.true) in (
-      valid-held w g.d v (move-holds w g.d v g.number g.p g.x g.y g.z c.before.before.before.before.before.before.before.of-move.result (c.before.before.before.before.before.before.before.of-move.ensures.is w refl v ∙ seen (λ (q : Point). refusal (service w g.d) (move g.number g.p q.x q.y q.z)) (to_z-of_z c.before.before.before.before.before.before.before.before.before.before.ranges.x) (to_z-of_z c.before.before.before.before.before.before.before.before.before.before.ranges.y) (to_z-of_z c.before.before.before.before.before.before.before.before.before.before.ranges.z)) t),
-      (move-known w g.d v g.number g.p g.x g.y g.z c.before.before.before.before.before.before.before.of-move.result (c.before.before.before.before.before.before.before.of-move.ensures.is w refl v ∙ seen (λ (q : Point). refusal (service w g.d) (move g.number g.p q.x q.y q.z)) (to_z-of_z c.before.before.before.before.before.before.before.before.before.before.ranges.x) (to_z-of_z c.before.before.before.before.before.before.before.before.before.before.ranges.y) (to_z-of_z c.before.before.before.before.before.before.before.before.before.before.ranges.z)) t, seen isFar (to_z-of_z c.before.before.before.before.before.before.before.before.before.before.ranges.x) (to_z-of_z c.before.before.before.before.before.before.before.before.before.before.ranges.y) (to_z-of_z c.before.before.before.before.before.before.before.before.before.before.ranges.z) ∙ move-near w g.d v g.number g.p g.x g.y g.z c.before.before.before.before.before.before.before.of-move.result (c.before.before.before.before.before.before.before.of-move.ensures.is w refl v ∙ seen (λ (q : Point). refusal (service w g.d) (move g.number g.p q.x q.y q.z)) (to_z-of_z c.before.before.before.before.before.before.before.before.before.before.ranges.x) (to_z-of_z c.before.before.before.before.before.before.before.before.before.before.ranges.y) (to_z-of_z c.before.before.before.before.before.before.before.before.before.before.ranges.z)) t),
+    let t : is_accepted_of c.before.before.before.before.before.before.before.of_move_lem.result ≡ true = (sym c.before.before.before.before.before.before.is-accepted.ensures ∙ c.before.before.before.before.before.if1.true) in (
+      valid_held w g.d v (move_holds w g.d v g.number g.p g.x g.y g.z c.before.before.before.before.before.before.before.of_move_lem.result (c.before.before.before.before.before.before.before.of_move_lem.ensures.is w refl v ∙ seen (λ (q : Point). refusal (service w g.d) (move g.number g.p q.x q.y q.z)) (to_z-of_z c.before.before.before.before.before.before.before.before.before.before.ranges.x) (to_z-of_z c.before.before.before.before.before.before.before.before.before.before.ranges.y) (to_z-of_z c.before.before.before.before.before.before.before.before.before.before.ranges.z)) t),
+      (move_known w g.d v g.number g.p g.x g.y g.z c.before.before.before.before.before.before.before.of_move_lem.result (c.before.before.before.before.before.before.before.of_move_lem.ensures.is w refl v ∙ seen (λ (q : Point). refusal (service w g.d) (move g.number g.p q.x q.y q.z)) (to_z-of_z c.before.before.before.before.before.before.before.before.before.before.ranges.x) (to_z-of_z c.before.before.before.before.before.before.before.before.before.before.ranges.y) (to_z-of_z c.before.before.before.before.before.before.before.before.before.before.ranges.z)) t, seen is_far_of (to_z-of_z c.before.before.before.before.before.before.before.before.before.before.ranges.x) (to_z-of_z c.before.before.before.before.before.before.before.before.before.before.ranges.y) (to_z-of_z c.before.before.before.before.before.before.before.before.before.before.ranges.z) ∙ move_near w g.d v g.number g.p g.x g.y g.z c.before.before.before.before.before.before.before.of_move_lem.result (c.before.before.before.before.before.before.before.of_move_lem.ensures.is w refl v ∙ seen (λ (q : Point). refusal (service w g.d) (move g.number g.p q.x q.y q.z)) (to_z-of_z c.before.before.before.before.before.before.before.before.before.before.ranges.x) (to_z-of_z c.before.before.before.before.before.before.before.before.before.before.ranges.y) (to_z-of_z c.before.before.before.before.before.before.before.before.before.before.ranges.z)) t),
     )
 
 put-report-requires : tie.Need-put-report-requires
@@ -42,7 +42,7 @@ returns c =
     let g = c.before.before.before.before.before.before.before.before.before.before.before.before.before.before.before.before.before.before.args in
     let v = c.before.before.before.before.before.before.before.before.before.before.before.before.before.before.before.before.before.before.requires.1 in
     let w : Arrays = arrays g.points.now g.entries.now g.starts.now g.firsts.now g.stamps.now g.findings.now g.parts.now g.table.now g.turned.now in
-    did-move w g.d v g.number g.p g.x g.y g.z c.before.before.before.before.before.before.before.before.before.before.before.before.before.before.before.of-move.result (c.before.before.before.before.before.before.before.before.before.before.before.before.before.before.before.of-move.ensures.is w refl v ∙ seen (λ (q : Point). refusal (service w g.d) (move g.number g.p q.x q.y q.z)) (to_z-of_z c.before.before.before.before.before.before.before.before.before.before.before.before.before.before.before.before.before.before.ranges.x) (to_z-of_z c.before.before.before.before.before.before.before.before.before.before.before.before.before.before.before.before.before.before.ranges.y) (to_z-of_z c.before.before.before.before.before.before.before.before.before.before.before.before.before.before.before.before.before.before.ranges.z)) (sym c.before.before.before.before.before.before.before.before.before.before.before.before.before.before.is-accepted.ensures ∙ c.before.before.before.before.before.before.before.before.before.before.before.before.before.if1.true) _ (seen (λ (q : Point). q) (to_z-of_z c.before.before.before.before.before.before.before.before.before.before.before.before.before.before.before.before.before.before.ranges.x) (to_z-of_z c.before.before.before.before.before.before.before.before.before.before.before.before.before.before.before.before.before.before.ranges.y) (to_z-of_z c.before.before.before.before.before.before.before.before.before.before.before.before.before.before.before.before.before.before.ranges.z)) _ _ c.before.before.before.before.before.before.before.move-point.ensures.0 g.room.now _ _ c.before.before.put-report.ensures
+    did_move w g.d v g.number g.p g.x g.y g.z c.before.before.before.before.before.before.before.before.before.before.before.before.before.before.before.of_move_lem.result (c.before.before.before.before.before.before.before.before.before.before.before.before.before.before.before.of_move_lem.ensures.is w refl v ∙ seen (λ (q : Point). refusal (service w g.d) (move g.number g.p q.x q.y q.z)) (to_z-of_z c.before.before.before.before.before.before.before.before.before.before.before.before.before.before.before.before.before.before.ranges.x) (to_z-of_z c.before.before.before.before.before.before.before.before.before.before.before.before.before.before.before.before.before.before.ranges.y) (to_z-of_z c.before.before.before.before.before.before.before.before.before.before.before.before.before.before.before.before.before.before.ranges.z)) (sym c.before.before.before.before.before.before.before.before.before.before.before.before.before.before.is-accepted.ensures ∙ c.before.before.before.before.before.before.before.before.before.before.before.before.before.if1.true) _ (seen (λ (q : Point). q) (to_z-of_z c.before.before.before.before.before.before.before.before.before.before.before.before.before.before.before.before.before.before.ranges.x) (to_z-of_z c.before.before.before.before.before.before.before.before.before.before.before.before.before.before.before.before.before.before.ranges.y) (to_z-of_z c.before.before.before.before.before.before.before.before.before.before.before.before.before.before.before.before.before.before.ranges.z)) _ _ c.before.before.before.before.before.before.before.move-point.ensures.0 g.room.now _ _ c.before.before.put-report.ensures
 
 refuse-requires : tie.Need-refuse-requires
 refuse-requires c κs = search rules
@@ -55,7 +55,7 @@ returns-2 c =
     let g = c.before.before.before.before.before.before.before.before.before.args in
     let v = c.before.before.before.before.before.before.before.before.before.requires.1 in
     let w : Arrays = arrays g.points.now g.entries.now g.starts.now g.firsts.now g.stamps.now g.findings.now g.parts.now g.table.now g.turned.now in
-    did-refused w g.d v (move g.number g.p g.x g.y g.z) c.before.before.before.before.before.before.of-move.result g.room.now _ _ (c.before.before.before.before.before.before.of-move.ensures.is w refl v ∙ seen (λ (q : Point). refusal (service w g.d) (move g.number g.p q.x q.y q.z)) (to_z-of_z c.before.before.before.before.before.before.before.before.before.ranges.x) (to_z-of_z c.before.before.before.before.before.before.before.before.before.ranges.y) (to_z-of_z c.before.before.before.before.before.before.before.before.before.ranges.z)) (sym c.before.before.before.before.before.is-accepted.ensures ∙ c.before.before.before.before.if1.false) (c.before.before.refuse.ensures w v)
+    did_refused w g.d v (move g.number g.p g.x g.y g.z) c.before.before.before.before.before.before.of_move_lem.result g.room.now _ _ (c.before.before.before.before.before.before.of_move_lem.ensures.is w refl v ∙ seen (λ (q : Point). refusal (service w g.d) (move g.number g.p q.x q.y q.z)) (to_z-of_z c.before.before.before.before.before.before.before.before.before.ranges.x) (to_z-of_z c.before.before.before.before.before.before.before.before.before.ranges.y) (to_z-of_z c.before.before.before.before.before.before.before.before.before.ranges.z)) (sym c.before.before.before.before.before.is-accepted.ensures ∙ c.before.before.before.before.if1.false) (c.before.before.refuse.ensures w v)
 
 pub move-point-spec : {M : Type 1} → statement M
 move-point-spec =

@@ -10,44 +10,44 @@ use Rattle.frame.specs.Frame.{move}
 use Rattle.answer.specs.held.Wrote.{Wrote}
 use Rattle.space.specs.Space.{Point}
 use Rattle.places.specs.held.Places.{point3}
-use Rattle.places.specs.Points.{isFar}
+use Rattle.places.specs.Points.{is_far_of}
 use Rattle.building.specs.declared.Scalars.{Scalars}
 use Rattle.building.specs.Tables.{moved}
-use Rattle.building.specs.held.Holds.{Arrays, heldTables, heldBuilding}
+use Rattle.building.specs.held.Holds.{Arrays, held_tables, held_building}
 use Rattle.building.specs.laws.Load.{tables-points}
 use Rattle.service.specs.declared.Refusal.{Refusal}
-use Rattle.service.specs.Service.{State, holding, tables_of, buildingOf, isMisplaced, isAbsent, isBeyond, refusal, takes, reportOf, answerTo, isAccepted}
+use Rattle.service.specs.Service.{State, holding, tables_of, building_of, is_misplaced_of, is_absent, is_beyond_of, refusal, takes, report_of, answer_to, is_accepted_of}
 use Rattle.service.specs.laws.Fresh.{Passed}
 use Rattle.modes.specs.declared.Mode.TheVariants.{Holding}
 use Rattle.desk.specs.declared.Desk.{Desk}
 use Rattle.modes.specs.held.Mode.{holds}
 use Rattle.desk.specs.held.Holds.{service, Valid, Did, does}
 use Rattle.desk.specs.laws.Rows.{tables, service-holds}
-use Rattle.desk.specs.laws.Dids.{passed-row, holding-mode, did-report}
+use Rattle.desk.specs.laws.Dids.{passed_row, holding_mode, did_report}
 use Rattle.building.specs.held.Holds as B
 
-module _ (a : Arrays) (d : Desk) (v : Valid a d) (number p : ℕ) (x y z : ℤ) (r : Refusal) (row : r ≡ refusal (service a d) (move number p x y z)) (t : isAccepted r ≡ true) where
-  move-passed : Passed (service a d) (move number p x y z)
-  move-passed = passed-row (service a d) (move number p x y z) r row t
+module _ (a : Arrays) (d : Desk) (v : Valid a d) (number p : ℕ) (x y z : ℤ) (r : Refusal) (row : r ≡ refusal (service a d) (move number p x y z)) (t : is_accepted_of r ≡ true) where
+  move_passed : Passed (service a d) (move number p x y z)
+  move_passed = passed_row (service a d) (move number p x y z) r row t
 
-  pub move-holds : holds d.mode ≡ true
-  unfolding isMisplaced service
-  move-holds = holding-mode d.mode (tables a d) (heldBuilding a d.held) move-passed.placed
+  pub move_holds : holds d.mode ≡ true
+  unfolding is_misplaced_of service
+  move_holds = holding_mode d.mode (tables a d) (held_building a d.held) move_passed.placed
 
-  pub move-near : isFar (point3 x y z) ≡ false
-  unfolding isBeyond
-  move-near = move-passed.within
+  pub move_near : is_far_of (point3 x y z) ≡ false
+  unfolding is_beyond_of
+  move_near = move_passed.within
 
-  pub move-known : p < d.held.points
-  unfolding isAbsent tables_of heldBuilding
-  move-known =
-      let k : leb (length (tables a d).points) p ≡ false = ap (λ (st : State). leb (length (tables_of st).points) p) (sym (service-holds a d move-holds)) ∙ move-passed.known in
+  pub move_known : p < d.held.points
+  unfolding is_absent tables_of held_building
+  move_known =
+      let k : leb (length (tables a d).points) p ≡ false = ap (λ (st : State). leb (length (tables_of st).points) p) (sym (service-holds a d move_holds)) ∙ move_passed.known in
       omega (arith, leb-false (length (tables a d).points) p k, tables-points v.loaded)
 
-  pub did-move : (q : Point) → q ≡ point3 x y z → (a' : Arrays) (s : Scalars) → B.Did (moved number p q (heldBuilding a d.held)) a' s
-      → (room room' : List ℕ) (at : ℕ) → Wrote (ended (reportOf (heldTables a'.points a'.entries a'.starts a'.firsts s))) room d.at room' at
+  pub did_move : (q : Point) → q ≡ point3 x y z → (a' : Arrays) (s : Scalars) → B.Did (moved number p q (held_building a d.held)) a' s
+      → (room room' : List ℕ) (at : ℕ) → Wrote (ended (report_of (held_tables a'.points a'.entries a'.starts a'.firsts s))) room d.at room' at
       → Did (does (service a d) (move number p x y z)) room d.at a' room' (record { mode = Holding; held = s; at = at })
-  unfolding takes answerTo tables_of buildingOf
-  did-move q e =
-      did-report a d (move number p x y z) r row t (moved number p q (heldBuilding a d.held))
-      (ap (λ (st : State). takes st (move number p x y z)) (service-holds a d move-holds) ∙ ap (λ (w : Point). holding (moved number p w (heldBuilding a d.held))) (sym e)) refl
+  unfolding takes answer_to tables_of building_of
+  did_move q e =
+      did_report a d (move number p x y z) r row t (moved number p q (held_building a d.held))
+      (ap (λ (st : State). takes st (move number p x y z)) (service-holds a d move_holds) ∙ ap (λ (w : Point). holding (moved number p w (held_building a d.held))) (sym e)) refl

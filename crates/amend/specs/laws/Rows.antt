@@ -11,54 +11,54 @@ use Rattle.whole.specs.Lists.{given, first}
 use Rattle.frame.specs.Frame.{move}
 use Rattle.space.specs.held.Points.{points_of}
 use Rattle.places.specs.held.Places.{point3}
-use Rattle.places.specs.Points.{isFar, standsElse}
-use Rattle.building.specs.held.Holds.{Arrays, heldTables, heldBuilding}
+use Rattle.places.specs.Points.{is_far_of, stands_else_of}
+use Rattle.building.specs.held.Holds.{Arrays, held_tables, held_building}
 use Rattle.building.specs.laws.Load.{tables-points}
 use Rattle.service.specs.declared.Refusal.{Refusal}
 use Rattle.service.specs.declared.Refusal.TheVariants.{Accepted, Misplaced, Beyond, Absent, Taken, Late}
-use Rattle.service.specs.Service.{State, isMalformed, isMisplaced, refusal, isAccepted}
-use Rattle.service.specs.laws.Handlers.{of-move}
+use Rattle.service.specs.Service.{State, is_malformed, is_misplaced_of, refusal, is_accepted_of}
+use Rattle.service.specs.laws.Handlers.{of_move_lem}
 use Rattle.desk.specs.declared.Desk.{Desk}
 use Rattle.modes.specs.held.Mode.{holds}
 use Rattle.desk.specs.held.Holds.{service, Valid}
-use Rattle.desk.specs.laws.Rows.{tables, service-holds, refused, not-holding}
+use Rattle.desk.specs.laws.Rows.{tables, service-holds, refused, not_holding}
 use Rattle.amend.specs.held.Amend.{MoveRow}
 
 module _ (points : List ℤ) (d : Desk) (number p : ℕ) (x y z : ℤ) where
-  pub move-misplaced : holds d.mode ≡ false → MoveRow points d number p x y z Misplaced
-  unfolding isMalformed isMisplaced
-  move-misplaced e = not-holding refl (λ st. refl) e
+  pub move_misplaced : holds d.mode ≡ false → MoveRow points d number p x y z Misplaced
+  unfolding is_malformed is_misplaced_of
+  move_misplaced e = not_holding refl (λ st. refl) e
 
   module _ (l : holds d.mode ≡ true) where
     move-rows : (a : Arrays) → a.points ≡ points → Valid a d
-        → refusal (service a d) (move number p x y z) ≡ first Accepted (given (leb number d.held.last) Late ∷ given (leb d.held.points p) Absent ∷ given (isFar (point3 x y z)) Beyond ∷ given (standsElse p (point3 x y z) (take d.held.points (points_of points))) Taken ∷ [])
-    unfolding heldBuilding heldTables
+        → refusal (service a d) (move number p x y z) ≡ first Accepted (given (leb number d.held.last) Late ∷ given (leb d.held.points p) Absent ∷ given (is_far_of (point3 x y z)) Beyond ∷ given (stands_else_of p (point3 x y z) (take d.held.points (points_of points))) Taken ∷ [])
+    unfolding held_building held_tables
     move-rows a s v =
-        let rows : ℕ → List ℤ → Refusal = λ n q. first Accepted (given (leb number d.held.last) Late ∷ given (leb n p) Absent ∷ given (isFar (point3 x y z)) Beyond ∷ given (standsElse p (point3 x y z) (take d.held.points (points_of q))) Taken ∷ []) in
+        let rows : ℕ → List ℤ → Refusal = λ n q. first Accepted (given (leb number d.held.last) Late ∷ given (leb n p) Absent ∷ given (is_far_of (point3 x y z)) Beyond ∷ given (stands_else_of p (point3 x y z) (take d.held.points (points_of q))) Taken ∷ []) in
         let n : length (tables a d).points ≡ d.held.points = tables-points v.loaded in
-        ap (λ (st : State). refusal st (move number p x y z)) (service-holds a d l) ∙ of-move (heldBuilding a d.held) number p x y z ∙ (λ i. rows (n i) (s i))
+        ap (λ (st : State). refusal st (move number p x y z)) (service-holds a d l) ∙ of_move_lem (held_building a d.held) number p x y z ∙ (λ i. rows (n i) (s i))
 
     pub move-late : number ≤ d.held.last → MoveRow points d number p x y z Late
-    unfolding isAccepted first given
+    unfolding is_accepted_of first given
     move-late h = refused Late refl (λ a s v. sym (move-rows a s v ∙ (rw (le-leb number d.held.last h))))
 
     module _ (timely : d.held.last < number) where
       pub move-absent : d.held.points ≤ p → MoveRow points d number p x y z Absent
-      unfolding isAccepted first given
+      unfolding is_accepted_of first given
       move-absent h = refused Absent refl (λ a s v. sym (move-rows a s v ∙ (rw (lt-leb number d.held.last timely, le-leb d.held.points p h))))
 
       module _ (known : p < d.held.points) where
-        pub move-beyond : isFar (point3 x y z) ≡ true → MoveRow points d number p x y z Beyond
-        unfolding isAccepted first given
+        pub move-beyond : is_far_of (point3 x y z) ≡ true → MoveRow points d number p x y z Beyond
+        unfolding is_accepted_of first given
         move-beyond e = refused Beyond refl (λ a s v. sym (move-rows a s v ∙ (rw (lt-leb number d.held.last timely, lt-leb d.held.points p known, e))))
 
-        module _ (near : isFar (point3 x y z) ≡ false) where
-          pub move_taken : standsElse p (point3 x y z) (take d.held.points (points_of points)) ≡ true → MoveRow points d number p x y z Taken
-          unfolding isAccepted first given
+        module _ (near : is_far_of (point3 x y z) ≡ false) where
+          pub move_taken : stands_else_of p (point3 x y z) (take d.held.points (points_of points)) ≡ true → MoveRow points d number p x y z Taken
+          unfolding is_accepted_of first given
           move_taken e = refused Taken refl (λ a s v. sym (move-rows a s v ∙ (rw (lt-leb number d.held.last timely, lt-leb d.held.points p known, near, e))))
 
-          pub move-accepted : standsElse p (point3 x y z) (take d.held.points (points_of points)) ≡ false → MoveRow points d number p x y z Accepted
-          unfolding isAccepted first given
+          pub move-accepted : stands_else_of p (point3 x y z) (take d.held.points (points_of points)) ≡ false → MoveRow points d number p x y z Accepted
+          unfolding is_accepted_of first given
           move-accepted e =
               record {
                 is = λ a s v. sym (move-rows a s v ∙ (rw (lt-leb number d.held.last timely, lt-leb d.held.points p known, near, e)));

@@ -2,7 +2,7 @@
 use native.Mathlib.Omega.{arith}
 use mir.Facts.{Fits-nat_abs}
 use mir.Syntax.{w64}
-use Rattle.hex.specs.laws.Signed.{seen, neg', flipped, back, bits-neg, bits_pos}
+use Rattle.hex.specs.laws.Signed.{seen, neg', flipped, back, bits_neg, bits_pos}
 use Rattle.answer.proofs.bits.Statement.{statement}
 use Rattle.answer.proofs.bits.Tie as tie
 
@@ -23,7 +23,7 @@ cast-result-2 c =
 returns : tie.Need-returns
 returns c =
     rw (back c.before.args.z c.before.ranges.z c.if1.true)
-    (bits-neg c.before.args.z (neg' c.before.args.z c.before.ranges.z c.if1.true))
+    (bits_neg c.before.args.z (neg' c.before.args.z c.before.ranges.z c.if1.true))
 
 returns-2 : tie.Need-returns-2
 returns-2 c =

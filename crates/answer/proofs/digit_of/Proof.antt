@@ -1,5 +1,5 @@
 -- `digit_of` meets its contract: 7 more from 10 on.
-use Rattle.hex.specs.laws.Digits.{digit-by}
+use Rattle.hex.specs.laws.Digits.{digit_by}
 use borrow.Author.Rules.{rules}
 use Rattle.answer.proofs.digit_of.Statement.{statement}
 use Rattle.answer.proofs.digit_of.Tie as tie
@@ -20,7 +20,7 @@ cast-result : tie.Need-overflow-cast-result
 cast-result c = search rules
 
 returns : tie.Need-returns
-returns c = digit-by c.args.n c.requires
+returns c = digit_by c.args.n c.requires
 
 pub digit-of-spec : {M : Type 1} → statement M
 digit-of-spec =

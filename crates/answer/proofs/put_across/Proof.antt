@@ -3,7 +3,7 @@ use mathlib.Core.Path.{refl}
 use borrow.Author.Rules.{rules}
 use lib.ListN.{length-set}
 use Rattle.answer.specs.Answer.{across}
-use Rattle.answer.specs.laws.Room.{put_first, put_then, put-end}
+use Rattle.answer.specs.laws.Room.{put_first, put_then, put_end}
 use Rattle.answer.proofs.put_across.Statement.{statement}
 use Rattle.answer.proofs.put_across.Tie as tie
 
@@ -48,7 +48,7 @@ returns c =
     let c2 = c3.before.before.before.before in
     let c1 = c2.before.before.before.before in
     let a = c1.before.before.before.args in
-    put-end
+    put_end
     (put_then 4 a.second
     (put_then 4 a.lowest
     (put_then 4 a.users

@@ -6,7 +6,7 @@ use borrow.Author.Rules.{rules}
 use lib.ListN.{length}
 use lib.Seq.{sets}
 use Rattle.hex.specs.Hex.{digits}
-use Rattle.answer.specs.laws.Room.{put-turn}
+use Rattle.answer.specs.laws.Room.{put_turn}
 use Rattle.answer.proofs.put_digits.Statement.{statement}
 use Rattle.answer.proofs.put_digits.Tie as tie
 
@@ -35,7 +35,7 @@ loop-less : tie.Need-loop-smaller invariant-loop decreases-loop
 loop-less c = search rules
 
 loop-again : tie.Need-loop-preserved invariant-loop decreases-loop
-loop-again c = (search rules, (search rules, (rw c.digit-of.ensures (put-turn _ _ _ _ (search rules)) ∙ c.before.before.loop.invariant.1.1)))
+loop-again c = (search rules, (search rules, (rw c.digit-of.ensures (put_turn _ _ _ _ (search rules)) ∙ c.before.before.loop.invariant.1.1)))
 
 same_length : tie.Need-same-length invariant-loop decreases-loop
 same_length c = search rules

@@ -2,7 +2,7 @@
 use mathlib.Core.Path.{refl}
 use borrow.Author.Rules.{rules}
 use Rattle.answer.specs.Answer.{plain}
-use Rattle.answer.specs.laws.Room.{put_first, put-end}
+use Rattle.answer.specs.laws.Room.{put_first, put_end}
 use Rattle.answer.proofs.put_plain.Statement.{statement}
 use Rattle.answer.proofs.put_plain.Tie as tie
 
@@ -23,7 +23,7 @@ same_length c = search rules
 
 returns : tie.Need-returns
 unfolding plain
-returns c = put-end (put_first 2 c.before.before.before.before.before.args.n c.before.before.put-digits.ensures) refl
+returns c = put_end (put_first 2 c.before.before.before.before.before.args.n c.before.before.put-digits.ensures) refl
 
 pub put-plain-spec : {M : Type 1} → statement M
 put-plain-spec =

@@ -5,7 +5,7 @@ use lib.ListN.{length-set}
 use mir.Facts.{to_z-of_z}
 use Rattle.hex.specs.Hex.{bits64}
 use Rattle.answer.specs.Answer.{reported}
-use Rattle.answer.specs.laws.Room.{put_first, put_then, put-end}
+use Rattle.answer.specs.laws.Room.{put_first, put_then, put_end}
 use Rattle.answer.proofs.put_report.Statement.{statement}
 use Rattle.answer.proofs.put_report.Tie as tie
 
@@ -68,7 +68,7 @@ returns c =
     let a = c1.before.before.before.args in
     let b = c.before.before.before.bits.ensures ∙ ap bits64 (to_z-of_z c1.before.before.before.ranges.volume) in
     let e = rw b at c.before.before.put-digits6.ensures in
-    put-end
+    put_end
     (put_then 16 (bits64 a.volume)
     (put_then 4 a.faulty
     (put_then 4 a.b

@@ -5,7 +5,7 @@ use lib.ListN.{length-set}
 use mir.Facts.{to_z-of_z}
 use Rattle.hex.specs.Hex.{bits64}
 use Rattle.answer.specs.Answer.{told}
-use Rattle.answer.specs.laws.Room.{put_first, put_then, put-end}
+use Rattle.answer.specs.laws.Room.{put_first, put_then, put_end}
 use Rattle.answer.proofs.put_told.Statement.{statement}
 use Rattle.answer.proofs.put_told.Tie as tie
 
@@ -61,7 +61,7 @@ returns c =
     let a = c1.before.before.before.args in
     let b = c.before.before.before.bits.ensures ∙ ap bits64 (to_z-of_z c1.before.before.before.ranges.part) in
     let e = rw b at c.before.before.put-digits5.ensures in
-    put-end
+    put_end
     (put_then 16 (bits64 a.part)
     (put_then 8 a.stamp
     (put_then 4 a.position

@@ -6,7 +6,7 @@ use mathlib.Core.List.{List, [], ◌∷◌, ◌++◌}
 use Rattle.std.proofs.Math.ListN.{length, set}
 use Rattle.std.proofs.lemmas.List.Edits.{sets}
 use Rattle.std.proofs.lemmas.List.{set_comm}
-use Rattle.whole.specs.laws.Stores.{sets-append}
+use Rattle.whole.specs.laws.Stores.{sets_append}
 use Rattle.hex.specs.Hex.{digit, digits}
 use Rattle.hex.specs.laws.Back.{length_digits}
 use Rattle.lines.specs.Lines.{ended}
@@ -23,11 +23,11 @@ module _ {A : Type 0} where
       ∙ ap (λ (n : ℕ). set (set l n d) a x) (omega arith))
 
 -- a turn of the loop that writes digits, the last first
-pub put-turn : (room : List ℕ) (at i w : ℕ) → 0 < i
+pub put_turn : (room : List ℕ) (at i w : ℕ) → 0 < i
     → sets (set room (at + (i - 1)) (digit (w % 16))) at (digits (i - 1) (w / 16)) ≡ sets room at (digits i w)
 unfolding digits
-put-turn room at zero w h = absurd (omega arith)
-put-turn room at (suc i) w h =
+put_turn room at zero w h = absurd (omega arith)
+put_turn room at (suc i) w h =
     let e : suc i - 1 ≡ i = omega arith in
     let l : length (digits i (w / 16)) ≡ i = length_digits i (w / 16) in
     rw e (sym (ap (λ (n : ℕ). sets (set room (at + n) (digit (w % 16))) at (digits i (w / 16))) l) ∙ sym (sets-snoc (digits i (w / 16)) room at (digit (w % 16))))
@@ -48,15 +48,15 @@ module _ {room room₁ : List ℕ} {at : ℕ} where
       let c : length l ≡ n = p.count in
       let d : length (digits k v) ≡ k = length_digits k v in
       record {
-        bytes = e ∙ ap (λ (s : List ℕ). sets s (at + n) (digits k v)) p.bytes ∙ ap (λ (m : ℕ). sets (sets room at l) (at + m) (digits k v)) (sym c) ∙ sets-append l (digits k v) room at;
+        bytes = e ∙ ap (λ (s : List ℕ). sets s (at + n) (digits k v)) p.bytes ∙ ap (λ (m : ℕ). sets (sets room at l) (at + m) (digits k v)) (sym c) ∙ sets_append l (digits k v) room at;
         count = length-append l (digits k v) ∙ omega arith;
       }
 
-  pub put-end : {l : List ℕ} {n r : ℕ} → Put l room at room₁ n → r ≡ at + (n + 1) → Wrote (ended l) room at (set room₁ (at + n) 10) r
+  pub put_end : {l : List ℕ} {n r : ℕ} → Put l room at room₁ n → r ≡ at + (n + 1) → Wrote (ended l) room at (set room₁ (at + n) 10) r
   unfolding ended
-  put-end {l} {n} {r} p e =
+  put_end {l} {n} {r} p e =
       let c : length l ≡ n = p.count in
       record {
-        bytes = ap (λ (s : List ℕ). set s (at + n) 10) p.bytes ∙ ap (λ (m : ℕ). set (sets room at l) (at + m) 10) (sym c) ∙ sets-append l (10 ∷ []) room at;
+        bytes = ap (λ (s : List ℕ). set s (at + n) 10) p.bytes ∙ ap (λ (m : ℕ). set (sets room at l) (at + m) 10) (sym c) ∙ sets_append l (10 ∷ []) room at;
         past = e ∙ ap (λ (m : ℕ). at + m) (sym (length-append l (10 ∷ []) ∙ omega arith));
       }

@@ -1,5 +1,5 @@
 -- `apart::lists` meets its contract.
-use Rattle.apart.proofs.Chains.{lists-more, lists-done}
+use Rattle.apart.proofs.Chains.{lists_more, lists_done}
 use Rattle.apart.specs.held.Reaching.{Listed}
 use lib.ListN.{length}
 use borrow.Author.Rules.{rules}
@@ -56,10 +56,10 @@ loop-less c = search rules
 loop-again : tie.Need-loop-preserved invariant-loop decreases-loop
 loop-again c = let s = c.before.before.before.before in
     let at = c.before in
-    (lists-more _ _ _ _ _ s.loop.invariant.0 (omega (arith, c.before.before.before.loop-test.true, s.before.before.requires.0)) at.poly-of.ensures.0 at.poly-of.ensures.1, search rules)
+    (lists_more _ _ _ _ _ s.loop.invariant.0 (omega (arith, c.before.before.before.loop-test.true, s.before.before.requires.0)) at.poly-of.ensures.0 at.poly-of.ensures.1, search rules)
 
 returns : tie.Need-returns invariant-loop decreases-loop
-returns c = lists-done _ _ _ _ c.before.loop.invariant.0 c.before.loop.invariant.1 c.loop-test.false
+returns c = lists_done _ _ _ _ c.before.loop.invariant.0 c.before.loop.invariant.1 c.loop-test.false
 
 pub lists-spec : {M : Type 1} → statement M
 lists-spec =

@@ -1,7 +1,7 @@
 -- `apart::spread` meets its contract.
 use borrow.Author.Rules.{rules}
 use borrow.Author.Tests.{eqb-true}
-use Rattle.bits.specs.laws.Words.{spread-small}
+use Rattle.bits.specs.laws.Words.{spread_small}
 use Rattle.apart.proofs.Sweeps.{spread-up, spread-still, spread-down}
 use Rattle.apart.proofs.spread.Statement.{statement}
 use Rattle.apart.proofs.spread.Tie as tie
@@ -14,7 +14,7 @@ lowest-below-requires c κs = search rules
 
 returns : tie.Need-returns
 returns c = let up = c.before.before.before.sweep-up.ensures in
-    (up.0, λ _. spread-up _ _ _ _ _ up.1 _ (spread-small 64 _) c.before.lowest-below.ensures c.if1.true)
+    (up.0, λ _. spread-up _ _ _ _ _ up.1 _ (spread_small 64 _) c.before.lowest-below.ensures c.if1.true)
 
 sweep-down-requires : tie.Need-sweep-down-requires
 sweep-down-requires c κs = search rules
@@ -30,7 +30,7 @@ lowest-below-requires-2 c κs = search rules
 returns-3 : tie.Need-returns-3
 returns-3 c = let up = c.before.before.before.before.before.before.before.before.sweep-up.ensures in
     let down = c.before.before.before.sweep-down.ensures in
-    (down.0, λ e. spread-down _ _ _ _ _ up.1 _ _ down.1 _ (spread-small 64 _) c.lowest-below2.ensures (eqb-true c.lowest-below2.result c.before.before.before.before.before.before.before.before.before.before.before.args.n e))
+    (down.0, λ e. spread-down _ _ _ _ _ up.1 _ _ down.1 _ (spread_small 64 _) c.lowest-below2.ensures (eqb-true c.lowest-below2.result c.before.before.before.before.before.before.before.before.before.before.before.args.n e))
 
 pub spread-spec : {M : Type 1} → statement M
 spread-spec =

@@ -4,15 +4,15 @@ use native.Mathlib.Omega.{arith}
 use mathlib.Core.Path.{◌≡◌, ◌∙◌}
 use lib.ListN.{length}
 use borrow.Author.Rules.{rules}
-use Rattle.bits.specs.held.Bits.{marksOf}
-use Rattle.bits.specs.laws.Words.{spread-small}
-use Rattle.reach.specs.laws.Marks.{words-marks}
-use Rattle.apart.proofs.Sweeps.{Down, down-none, down-still, down-marked, down-done}
+use Rattle.bits.specs.held.Bits.{marks_of}
+use Rattle.bits.specs.laws.Words.{spread_small}
+use Rattle.reach.specs.laws.Marks.{words_marks}
+use Rattle.apart.proofs.Sweeps.{Down, down-none, down_still, down_marked, down_done}
 use Rattle.apart.proofs.sweep_down.Statement.{statement}
 use Rattle.apart.proofs.sweep_down.Tie as tie
 
 abbrev invariant-loop : tie.invariant-loop
-invariant-loop words from marks₀ some₀ i₀ marks some i = (length marks ≡ 4) × Down words from (marksOf marks₀) (marksOf marks) some i
+invariant-loop words from marks₀ some₀ i₀ marks some i = (length marks ≡ 4) × Down words from (marks_of marks₀) (marks_of marks) some i
 
 abbrev decreases-loop : tie.decreases-loop
 decreases-loop words from marks₀ some₀ i₀ marks some i = i
@@ -55,7 +55,7 @@ loop-again c = let l = c.before.before.before.before.before.before.before.before
     let x = c.before.before.before.before.poly-of.ensures in
     let y = c.before.before.poly-of2.ensures in
     let j = c.before.join.ensures in
-    (j.0 ∙ l.0, down-marked _ _ _ _ _ _ _ _ _ _ _ (words-marks 4 _ l.0).size (spread-small 64 _) l.1 (omega (arith, c.before.before.before.before.before.before.before.loop-test.true)) c.before.before.before.before.before.before.before.before.before.before.requires.1 x.0 y.0 x.1 y.1 j.1)
+    (j.0 ∙ l.0, down_marked _ _ _ _ _ _ _ _ _ _ _ (words_marks 4 _ l.0).size (spread_small 64 _) l.1 (omega (arith, c.before.before.before.before.before.before.before.loop-test.true)) c.before.before.before.before.before.before.before.before.before.before.requires.1 x.0 y.0 x.1 y.1 j.1)
 
 loop-less-2 : tie.Need-loop-smaller-2 invariant-loop decreases-loop
 loop-less-2 c = search rules
@@ -65,10 +65,10 @@ loop-again-2 c = let l = c.before.before.before.before.before.before.before.befo
     let x = c.before.before.before.before.poly-of.ensures in
     let y = c.before.before.poly-of2.ensures in
     let j = c.before.join.ensures in
-    (j.0 ∙ l.0, down-still _ _ _ _ _ _ _ _ _ _ _ (words-marks 4 _ l.0).size (spread-small 64 _) l.1 (omega (arith, c.before.before.before.before.before.before.before.loop-test.true)) c.before.before.before.before.before.before.before.before.before.before.requires.1 x.0 y.0 x.1 y.1 j.1 (omega (arith, c.if1.false)))
+    (j.0 ∙ l.0, down_still _ _ _ _ _ _ _ _ _ _ _ (words_marks 4 _ l.0).size (spread_small 64 _) l.1 (omega (arith, c.before.before.before.before.before.before.before.loop-test.true)) c.before.before.before.before.before.before.before.before.before.before.requires.1 x.0 y.0 x.1 y.1 j.1 (omega (arith, c.if1.false)))
 
 returns : tie.Need-returns invariant-loop decreases-loop
-returns c = let l = c.before.loop.invariant in (l.0, down-done _ _ _ _ _ _ l.1 (omega (arith, c.loop-test.false)))
+returns c = let l = c.before.loop.invariant in (l.0, down_done _ _ _ _ _ _ l.1 (omega (arith, c.loop-test.false)))
 
 pub sweep-down-spec : {M : Type 1} → statement M
 sweep-down-spec =

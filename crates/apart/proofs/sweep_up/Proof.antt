@@ -4,15 +4,15 @@ use native.Mathlib.Omega.{arith}
 use mathlib.Core.Path.{◌≡◌, ◌∙◌}
 use lib.ListN.{length}
 use borrow.Author.Rules.{rules}
-use Rattle.bits.specs.held.Bits.{marksOf}
-use Rattle.bits.specs.laws.Words.{spread-small}
-use Rattle.reach.specs.laws.Marks.{words-marks}
-use Rattle.apart.proofs.Sweeps.{Up, up_none, up-still, up-marked, up_done}
+use Rattle.bits.specs.held.Bits.{marks_of}
+use Rattle.bits.specs.laws.Words.{spread_small}
+use Rattle.reach.specs.laws.Marks.{words_marks}
+use Rattle.apart.proofs.Sweeps.{Up, up_none, up_still, up_marked, up_done}
 use Rattle.apart.proofs.sweep_up.Statement.{statement}
 use Rattle.apart.proofs.sweep_up.Tie as tie
 
 abbrev invariant-loop : tie.invariant-loop
-invariant-loop words marks₀ last₀ i₀ marks last i = (length marks ≡ 4) × Up words (marksOf marks₀) (marksOf marks) last i
+invariant-loop words marks₀ last₀ i₀ marks last i = (length marks ≡ 4) × Up words (marks_of marks₀) (marks_of marks) last i
 
 abbrev decreases-loop : tie.decreases-loop
 decreases-loop words marks₀ last₀ i₀ marks last i = length words - i
@@ -58,7 +58,7 @@ loop-again c = let l = c.before.before.before.before.before.before.before.before
     let x = c.before.before.before.before.poly-of.ensures in
     let y = c.before.before.poly-of2.ensures in
     let j = c.before.join.ensures in
-    (j.0 ∙ l.0, up-marked _ _ _ _ _ _ _ _ _ (words-marks 4 _ l.0).size (spread-small 64 _) l.1 c.before.before.before.before.before.before.before.loop-test.true x.0 y.0 x.1 y.1 j.1)
+    (j.0 ∙ l.0, up_marked _ _ _ _ _ _ _ _ _ (words_marks 4 _ l.0).size (spread_small 64 _) l.1 c.before.before.before.before.before.before.before.loop-test.true x.0 y.0 x.1 y.1 j.1)
 
 loop-less-2 : tie.Need-loop-smaller-2 invariant-loop decreases-loop
 loop-less-2 c = search rules
@@ -68,7 +68,7 @@ loop-again-2 c = let l = c.before.before.before.before.before.before.before.befo
     let x = c.before.before.before.before.poly-of.ensures in
     let y = c.before.before.poly-of2.ensures in
     let j = c.before.join.ensures in
-    (j.0 ∙ l.0, up-still _ _ _ _ _ _ _ _ _ (words-marks 4 _ l.0).size (spread-small 64 _) l.1 c.before.before.before.before.before.before.before.loop-test.true x.0 y.0 x.1 y.1 j.1 (omega (arith, c.if1.false)))
+    (j.0 ∙ l.0, up_still _ _ _ _ _ _ _ _ _ (words_marks 4 _ l.0).size (spread_small 64 _) l.1 c.before.before.before.before.before.before.before.loop-test.true x.0 y.0 x.1 y.1 j.1 (omega (arith, c.if1.false)))
 
 returns : tie.Need-returns invariant-loop decreases-loop
 returns c = let l = c.before.loop.invariant in (l.0, up_done _ _ _ _ _ l.1 (omega (arith, c.loop-test.false)))

@@ -1,19 +1,19 @@
 -- `apart::take_all` meets its contract.
 use Rattle.whole.specs.laws.Places.{all_alike}
-use Rattle.apart.proofs.Queues.{Taking, take_none, take-small, take_more, take_done}
+use Rattle.apart.proofs.Queues.{Taking, take_none, take_small, take_more, take_done}
 use Rattle.reach.specs.held.Marking.{Joined}
-use Rattle.words.specs.held.Words.{polyOf}
+use Rattle.words.specs.held.Words.{poly_from}
 use borrow.Author.Rules.{rules}
 use native.Mathlib.Omega.{arith}
 use Prim.Native.Nat.{ℕ, ◌-◌}
 use mathlib.Core.Path.{◌≡◌}
 use lib.ListN.{length, length-replicate}
-use Rattle.bits.specs.held.Bits.{marksOf}
+use Rattle.bits.specs.held.Bits.{marks_of}
 use Rattle.apart.proofs.take_all.Statement.{statement}
 use Rattle.apart.proofs.take_all.Tie as tie
 
 abbrev invariant-loop : tie.invariant-loop
-invariant-loop words head chain marks₀ found₀ from₀ to₀ marks found from to = (length marks ≡ 4) × Taking (Joined words polyOf) (marksOf marks₀) (marksOf marks) found from to
+invariant-loop words head chain marks₀ found₀ from₀ to₀ marks found from to = (length marks ≡ 4) × Taking (Joined words poly_from) (marks_of marks₀) (marks_of marks) found from to
 
 abbrev decreases-loop : tie.decreases-loop
 decreases-loop words head chain marks₀ found₀ from₀ to₀ marks found from to = 256 - from
@@ -25,7 +25,7 @@ mul_wide : tie.Need-overflow-mul-wide invariant-loop decreases-loop
 mul_wide c = search rules
 
 array-read-wide : tie.Need-array-read-wide invariant-loop decreases-loop
-array-read-wide c = omega (arith, c.loop-test.true, take-small _ _ _ _ _ _ c.before.loop.invariant.1)
+array-read-wide c = omega (arith, c.loop-test.true, take_small _ _ _ _ _ _ c.before.loop.invariant.1)
 
 wide-requires : tie.Need-wide-requires invariant-loop decreases-loop
 wide-requires c κs = search rules
@@ -40,7 +40,7 @@ add-from : tie.Need-overflow-add-from invariant-loop decreases-loop
 add-from c = search rules
 
 loop-less : tie.Need-loop-smaller invariant-loop decreases-loop
-loop-less c = omega (arith, c.before.before.before.before.loop-test.true, take-small _ _ _ _ _ _ c.before.before.before.before.before.loop.invariant.1)
+loop-less c = omega (arith, c.before.before.before.before.loop-test.true, take_small _ _ _ _ _ _ c.before.before.before.before.before.loop.invariant.1)
 
 loop-again : tie.Need-loop-preserved invariant-loop decreases-loop
 loop-again c = (c.visit.ensures.0, take_more _ _ _ _ _ _ c.before.before.before.before.before.loop.invariant.1 c.before.before.before.before.loop-test.true _ _ _ (rw c.before.before.before.wide.ensures at c.visit.ensures.1))

@@ -1,7 +1,7 @@
 -- `apart::unreached` meets its contract.
 use borrow.Author.Rules.{rules}
-use Rattle.bits.specs.laws.Words.{spread-small}
-use Rattle.apart.proofs.Lowest.{lowest-of-spread}
+use Rattle.bits.specs.laws.Words.{spread_small}
+use Rattle.apart.proofs.Lowest.{lowest_of-spread}
 use Rattle.apart.proofs.unreached.Statement.{statement}
 use Rattle.apart.proofs.unreached.Tie as tie
 
@@ -15,7 +15,7 @@ lowest-below-requires : tie.Need-lowest-below-requires
 lowest-below-requires c κs = search rules
 
 returns : tie.Need-returns
-returns c = λ _. lowest-of-spread _ _ _ _ _ c.before.before.before.before.before.seeded.ensures.1 (c.before.before.before.spread.ensures.1 c.before.before.if1.true) (spread-small 64 _) c.lowest-below.ensures
+returns c = λ _. lowest_of-spread _ _ _ _ _ c.before.before.before.before.before.seeded.ensures.1 (c.before.before.before.spread.ensures.1 c.before.before.if1.true) (spread_small 64 _) c.lowest-below.ensures
 
 unreached-taken-requires : tie.Need-unreached-taken-requires
 unreached-taken-requires c κs = search rules

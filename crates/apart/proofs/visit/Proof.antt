@@ -1,16 +1,16 @@
 -- `apart::visit` meets its contract.
 use Prim.Native.Nat.{◌-◌}
-use Rattle.apart.proofs.Queues.{Visiting, visit-none, visit-more, visit-done}
+use Rattle.apart.proofs.Queues.{Visiting, visit-none, visit-more, visit_done}
 use borrow.Author.Rules.{rules}
 use native.Mathlib.Omega.{arith}
 use mathlib.Core.Path.{◌≡◌}
 use lib.ListN.{length}
-use Rattle.bits.specs.held.Bits.{marksOf}
+use Rattle.bits.specs.held.Bits.{marks_of}
 use Rattle.apart.proofs.visit.Statement.{statement}
 use Rattle.apart.proofs.visit.Tie as tie
 
 abbrev invariant-loop : tie.invariant-loop
-invariant-loop words head chain p marks₀ found₀ to n t₀ j₀ marks found t j = (length marks ≡ 4) × Visiting words p (marksOf marks₀) found₀ to (marksOf marks) found t j
+invariant-loop words head chain p marks₀ found₀ to n t₀ j₀ marks found t j = (length marks ≡ 4) × Visiting words p (marks_of marks₀) found₀ to (marks_of marks) found t j
 
 abbrev decreases-loop : tie.decreases-loop
 decreases-loop words head chain p marks₀ found₀ to n t₀ j₀ marks found t j = j
@@ -68,7 +68,7 @@ loop-again c = let s = c.before.before.before.before.before.before.before.before
     )
 
 returns : tie.Need-returns invariant-loop decreases-loop
-returns c = (c.before.loop.invariant.0, visit-done _ _ _ _ _ _ _ _ _ c.before.loop.invariant.1 (omega arith))
+returns c = (c.before.loop.invariant.0, visit_done _ _ _ _ _ _ _ _ _ c.before.loop.invariant.1 (omega arith))
 
 pub visit-spec : {M : Type 1} → statement M
 visit-spec =

@@ -1,23 +1,23 @@
 -- What the single steps of check 0B leave: marks of polygons that spread across pairs of words.
 use Rattle.std.specs.Prelude.{ℕ, ◌+◌, ◌%◌, ◌≤◌, ◌<◌, ◌≡◌, ◌⊎◌, List, length, get_or}
-use Rattle.words.specs.held.Words.{polyOf}
+use Rattle.words.specs.held.Words.{poly_from}
 use Rattle.reach.specs.Reach.{Reach}
 use Rattle.reach.specs.held.Marking.{Joined, Marked, Marks, zeros, Grown}
 
 -- of each pair of words from place a up to place b both polygons are marked or neither
 pub record Level (l m : List ℕ) (a b : ℕ) : Type 0 where
-  pub each : (k : ℕ) → k % 2 ≡ 0 → a ≤ k → k + 1 < b → get_or m (polyOf (get_or l k 0)) 0 ≡ get_or m (polyOf (get_or l (k + 1) 0)) 0
+  pub each : (k : ℕ) → k % 2 ≡ 0 → a ≤ k → k + 1 < b → get_or m (poly_from (get_or l k 0)) 0 ≡ get_or m (poly_from (get_or l (k + 1) 0)) 0
 
 -- a sweep up: from r on the marks agree
 pub record SweptUp (l m₀ m : List ℕ) (r : ℕ) : Type 0 where
   pub even : r % 2 ≡ 0
   pub within : r ≤ length l
-  pub grown : Grown (Joined l polyOf) m₀ m
+  pub grown : Grown (Joined l poly_from) m₀ m
   pub level : Level l m r (length l)
 
 -- a sweep down from a place: where it marks none, the marks below agree
 pub record SweptDown (l : List ℕ) (from : ℕ) (m₀ m : List ℕ) (r : ℕ) : Type 0 where
-  pub grown : Grown (Joined l polyOf) m₀ m
+  pub grown : Grown (Joined l poly_from) m₀ m
   pub level : r ≡ 0 → (m ≡ m₀) × Level l m 0 from
 
 -- polygon 0 alone is marked
@@ -29,15 +29,15 @@ pub record Seeded (m : List ℕ) : Type 0 where
 -- j is one above the last place before i of a word of polygon p, or 0
 pub record Last (l : List ℕ) (p i j : ℕ) : Type 0 where
   pub within : j ≤ i
-  pub own : (c : ℕ) → j ≡ c + 1 → polyOf (get_or l c 0) ≡ p
-  pub none : (k : ℕ) → j ≤ k → k < i → polyOf (get_or l k 0) ≡ p → ⊥
+  pub own : (c : ℕ) → j ≡ c + 1 → poly_from (get_or l c 0) ≡ p
+  pub none : (k : ℕ) → j ≤ k → k < i → poly_from (get_or l k 0) ≡ p → ⊥
 
 -- lists of the places of each polygon's words before i, each from its last place down
 pub record Listed (l head chain : List ℕ) (i : ℕ) : Type 0 where
   pub size : length head ≡ 256
   pub room : length chain ≡ 1024
   pub heads : (p : ℕ) → p < 256 → Last l p i (get_or head p 0)
-  pub nexts : (k : ℕ) → k < i → Last l (polyOf (get_or l k 0)) k (get_or chain k 0)
+  pub nexts : (k : ℕ) → k < i → Last l (poly_from (get_or l k 0)) k (get_or chain k 0)
 
 -- the marked polygons are the first t of f, each once
 pub record Queue (m f : List ℕ) (t : ℕ) : Type 0 where
@@ -71,5 +71,5 @@ pub record LowestBare (m : List ℕ) (n r : ℕ) : Type 0 where
 -- r is the lowest number below n that 0 does not reach across pairs of words, as their polygons, or n
 pub record LowestCut (l : List ℕ) (n r : ℕ) : Type 0 where
   pub within : r ≤ n
-  pub before : (k : ℕ) → k < r → Reach (λ p. p ≡ 0) (Joined l polyOf) k
-  pub cut : r < n → Reach (λ p. p ≡ 0) (Joined l polyOf) r → ⊥
+  pub before : (k : ℕ) → k < r → Reach (λ p. p ≡ 0) (Joined l poly_from) k
+  pub cut : r < n → Reach (λ p. p ≡ 0) (Joined l poly_from) r → ⊥

@@ -10,8 +10,8 @@ lowest-one : (l : List ℕ) (n r r' : ℕ) → LowestCut l n r → LowestCut l n
 lowest-one l n r r' a b h = a.cut (omega (arith, b.within)) (b.before r h)
 
 -- `unreached`: the polygon, for as many words as the table can have
-pub unreached-agree : (l : List ℕ) (n r r' : ℕ) → length l ≤ 1024 → (length l ≤ 1024 → LowestCut l n r) → (length l ≤ 1024 → LowestCut l n r') → r ≡ r'
-unreached-agree l n r r' h f g =
+pub unreached_agree : (l : List ℕ) (n r r' : ℕ) → length l ≤ 1024 → (length l ≤ 1024 → LowestCut l n r) → (length l ≤ 1024 → LowestCut l n r') → r ≡ r'
+unreached_agree l n r r' h f g =
     by_cases
     (dec_lt r r')
     (λ lt. absurd (lowest-one l n r r' (f h) (g h) lt))

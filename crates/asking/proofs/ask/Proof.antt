@@ -1,8 +1,8 @@
 -- `asking::ask` meets its contract.
 use mir.Syntax.{w64}
 use mir.Facts.{to_z-of_z}
-use Rattle.asking.specs.laws.Dids.{did-question}
-use Rattle.desk.specs.laws.Dids.{did-refused}
+use Rattle.asking.specs.laws.Dids.{did_question}
+use Rattle.desk.specs.laws.Dids.{did_refused}
 use Rattle.frame.specs.Frame.{question}
 use Prim.Native.Nat.{ℕ, ◌/◌, ◌%◌}
 use lib.IntN.{ℤ, pos}
@@ -21,13 +21,13 @@ is-accepted-requires c κs = search rules
 
 mul-kept : tie.Need-overflow-mul-kept
 mul-kept c =
-    let h = c.before.before.of-question.ensures.fit (sym c.before.is-accepted.ensures ∙ c.if1.true) in
+    let h = c.before.before.of_question_lem.ensures.fit (sym c.before.is-accepted.ensures ∙ c.if1.true) in
     let k = c.before.before.before.before.requires.1 in
     search rules
 
 element-copy-out-kept : tie.Need-element-copy-out-kept
 element-copy-out-kept c =
-    let h = c.before.before.of-question.ensures.fit (sym c.before.is-accepted.ensures ∙ c.if1.true) in
+    let h = c.before.before.of_question_lem.ensures.fit (sym c.before.is-accepted.ensures ∙ c.if1.true) in
     let k = c.before.before.before.before.requires.1 in
     search rules
 
@@ -39,25 +39,25 @@ position-of-requires c κs = search rules
 
 mul-stamp : tie.Need-overflow-mul-stamp
 mul-stamp c =
-    let h = c.before.before.before.before.before.of-question.ensures.fit (sym c.before.before.before.before.is-accepted.ensures ∙ c.before.before.before.if1.true) in
+    let h = c.before.before.before.before.before.of_question_lem.ensures.fit (sym c.before.before.before.before.is-accepted.ensures ∙ c.before.before.before.if1.true) in
     let k = c.before.before.before.before.before.before.before.requires.1 in
     search rules
 
 element-copy-out-stamp : tie.Need-element-copy-out-stamp
 element-copy-out-stamp c =
-    let h = c.before.before.before.before.before.of-question.ensures.fit (sym c.before.before.before.before.is-accepted.ensures ∙ c.before.before.before.if1.true) in
+    let h = c.before.before.before.before.before.of_question_lem.ensures.fit (sym c.before.before.before.before.is-accepted.ensures ∙ c.before.before.before.if1.true) in
     let k = c.before.before.before.before.before.before.before.requires.1 in
     search rules
 
 mul-part : tie.Need-overflow-mul-part
 mul-part c =
-    let h = c.before.before.before.before.before.before.of-question.ensures.fit (sym c.before.before.before.before.before.is-accepted.ensures ∙ c.before.before.before.before.if1.true) in
+    let h = c.before.before.before.before.before.before.of_question_lem.ensures.fit (sym c.before.before.before.before.before.is-accepted.ensures ∙ c.before.before.before.before.if1.true) in
     let k = c.before.before.before.before.before.before.before.before.requires.1 in
     search rules
 
 element-copy-out-part : tie.Need-element-copy-out-part
 element-copy-out-part c =
-    let h = c.before.before.before.before.before.before.of-question.ensures.fit (sym c.before.before.before.before.before.is-accepted.ensures ∙ c.before.before.before.before.if1.true) in
+    let h = c.before.before.before.before.before.before.of_question_lem.ensures.fit (sym c.before.before.before.before.before.is-accepted.ensures ∙ c.before.before.before.before.if1.true) in
     let k = c.before.before.before.before.before.before.before.before.requires.1 in
     search rules
 
@@ -71,9 +71,9 @@ returns : tie.Need-returns
 returns c =
     λ a sf ff pf v.
     let g = c.before.before.before.before.before.before.before.before.before.before.before.before.before.before.args in
-    let q = c.before.before.before.before.before.before.before.before.before.before.before.before.of-question in
+    let q = c.before.before.before.before.before.before.before.before.before.before.before.before.of_question_lem in
     let t = sym c.before.before.before.before.before.before.before.before.before.before.before.is-accepted.ensures ∙ c.before.before.before.before.before.before.before.before.before.before.if1.true in
-    did-question a g.d v g.p q.result (q.ensures.is a tt v) t (q.ensures.fit t) _ _ _ _
+    did_question a g.d v g.p q.result (q.ensures.is a tt v) t (q.ensures.fit t) _ _ _ _
     (c.before.before.before.before.before.before.before.before.number_of_lem.ensures ∙ ap (λ (l : List ℕ). get_or l g.p 0 % 16) (sym ff))
     (c.before.before.before.before.before.before.before.position-of.ensures ∙ ap (λ (l : List ℕ). get_or l g.p 0 / 16) (sym ff))
     (ap (λ (l : List ℕ). get_or l g.p 0) (sym sf))
@@ -90,7 +90,7 @@ returns-2 : tie.Need-returns-2
 returns-2 c =
     λ a sf ff pf v.
     let g = c.before.before.before.before.before.before.before.before.args in
-    did-refused a g.d v (question g.p) c.before.before.before.before.before.before.of-question.result g.room.now _ _ (c.before.before.before.before.before.before.of-question.ensures.is a tt v) (sym c.before.before.before.before.before.is-accepted.ensures ∙ c.before.before.before.before.if1.false) (c.before.before.refuse.ensures a v)
+    did_refused a g.d v (question g.p) c.before.before.before.before.before.before.of_question_lem.result g.room.now _ _ (c.before.before.before.before.before.before.of_question_lem.ensures.is a tt v) (sym c.before.before.before.before.before.is-accepted.ensures ∙ c.before.before.before.before.if1.false) (c.before.before.refuse.ensures a v)
 
 pub ask-spec : {M : Type 1} → statement M
 ask-spec =

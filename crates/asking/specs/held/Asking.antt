@@ -7,7 +7,7 @@ use Rattle.desk.specs.held.Row.{Row}
 
 -- what a question asks of the arrays that it reads
 pub record Asked (stamps findings : List ℕ) (parts : List ℤ) (polygons : ℕ) : Type 0 where
-  pub stamps-size : length stamps ≡ 256
+  pub stamps_size : length stamps ≡ 256
   pub findings-size : length findings ≡ 256
   pub parts-size : length parts ≡ 256
   pub few : polygons ≤ 256

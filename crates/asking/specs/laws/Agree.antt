@@ -4,8 +4,8 @@ use Rattle.frame.specs.Frame.{question}
 use Rattle.building.specs.held.Holds.{Arrays}
 use Rattle.desk.specs.declared.Desk.{Desk}
 use Rattle.desk.specs.held.Holds.{service, Did, does}
-use Rattle.desk.specs.laws.Agree.{Same, did-agree}
+use Rattle.desk.specs.laws.Agree.{Same, did_agree}
 
 module _ (a : Arrays) (d : Desk) (room room₁ room₂ : List ℕ) (a₁ a₂ : Arrays) (d₁ d₂ : Desk) where
-  pub ask-agrees : (p : ℕ) → Did (does (service a d) (question p)) room d.at a₁ room₁ d₁ → Did (does (service a d) (question p)) room d.at a₂ room₂ d₂ → Same room₁ room₂ a₁ a₂ d₁ d₂
-  ask-agrees p = did-agree
+  pub ask_agrees : (p : ℕ) → Did (does (service a d) (question p)) room d.at a₁ room₁ d₁ → Did (does (service a d) (question p)) room d.at a₂ room₂ d₂ → Same room₁ room₂ a₁ a₂ d₁ d₂
+  ask_agrees p = did_agree

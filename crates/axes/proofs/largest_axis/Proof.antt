@@ -5,8 +5,8 @@ use lib.Dec.{leb}
 use lib.IntN.{nat_abs}
 use borrow.Author.Rules.{rules}
 use borrow.Author.Tests.{le-leb, lt-leb}
-use Rattle.space.specs.held.Points.{asPoint}
-use Rattle.plane.specs.laws.Axes.{axis-x, axis-y, axis-z}
+use Rattle.space.specs.held.Points.{as_point}
+use Rattle.plane.specs.laws.Axes.{axis-x, axis-y, axis_z}
 use Rattle.space.specs.laws.Numbers.{size_is}
 use Rattle.axes.proofs.largest_axis.Statement.{statement}
 use Rattle.axes.proofs.largest_axis.Tie as tie
@@ -33,17 +33,17 @@ size-requires-3 c κs = search rules
 returns : tie.Need-returns
 returns c =
     let s = c.before in
-    sym (axis-x (asPoint c.before.before.before.before.before.before.before.args.n) (ap₂ ◌&&◌ (ap₂ leb (b-is s) (a-is s)) (ap₂ leb (c-is s) (a-is s)) ∙ c.if1.true))
+    sym (axis-x (as_point c.before.before.before.before.before.before.before.args.n) (ap₂ ◌&&◌ (ap₂ leb (b-is s) (a-is s)) (ap₂ leb (c-is s) (a-is s)) ∙ c.if1.true))
 
 returns-2 : tie.Need-returns-2
 returns-2 c =
     let s = c.before.before in
-    sym (axis-y (asPoint c.before.before.before.before.before.before.before.before.args.n) (ap₂ ◌&&◌ (ap₂ leb (b-is s) (a-is s)) (ap₂ leb (c-is s) (a-is s)) ∙ c.before.if1.false) (ap₂ leb (c-is s) (b-is s) ∙ le-leb _ _ c.if2.true))
+    sym (axis-y (as_point c.before.before.before.before.before.before.before.before.args.n) (ap₂ ◌&&◌ (ap₂ leb (b-is s) (a-is s)) (ap₂ leb (c-is s) (a-is s)) ∙ c.before.if1.false) (ap₂ leb (c-is s) (b-is s) ∙ le-leb _ _ c.if2.true))
 
 returns-3 : tie.Need-returns-3
 returns-3 c =
     let s = c.before.before in
-    sym (axis-z (asPoint c.before.before.before.before.before.before.before.before.args.n) (ap₂ ◌&&◌ (ap₂ leb (b-is s) (a-is s)) (ap₂ leb (c-is s) (a-is s)) ∙ c.before.if1.false) (ap₂ leb (c-is s) (b-is s) ∙ lt-leb _ _ c.if2.false))
+    sym (axis_z (as_point c.before.before.before.before.before.before.before.before.args.n) (ap₂ ◌&&◌ (ap₂ leb (b-is s) (a-is s)) (ap₂ leb (c-is s) (a-is s)) ∙ c.before.if1.false) (ap₂ leb (c-is s) (b-is s) ∙ lt-leb _ _ c.if2.false))
 
 pub largest-axis-spec : {M : Type 1} → statement M
 largest-axis-spec =

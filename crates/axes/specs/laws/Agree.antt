@@ -3,8 +3,8 @@ use Rattle.std.specs.Prelude.{◌≡◌}
 use Rattle.whole.specs.laws.Agree.{agree}
 use Rattle.space.specs.declared.Axis.{Axis}
 use Rattle.space.specs.declared.Place.{Place}
-use Rattle.space.specs.held.Points.{asPoint}
-use Rattle.plane.specs.Plane.{largestAxis}
+use Rattle.space.specs.held.Points.{as_point}
+use Rattle.plane.specs.Plane.{largest_axis_of}
 
-pub largest-axis-agrees : (n : Place) (r₁ r₂ : Axis) → r₁ ≡ largestAxis (asPoint n) → r₂ ≡ largestAxis (asPoint n) → r₁ ≡ r₂
-largest-axis-agrees n r₁ r₂ = agree
+pub largest_axis_agrees : (n : Place) (r₁ r₂ : Axis) → r₁ ≡ largest_axis_of (as_point n) → r₂ ≡ largest_axis_of (as_point n) → r₁ ≡ r₂
+largest_axis_agrees n r₁ r₂ = agree

@@ -3,7 +3,7 @@ use Prim.Native.Nat.{◌-◌, ◌≤◌}
 use native.Mathlib.Omega.{arith}
 use lib.ListN.{length}
 use borrow.Author.Rules.{rules}
-use Rattle.bits.specs.laws.Words.{Summed, summed-none, summed-more, summed-done}
+use Rattle.bits.specs.laws.Words.{Summed, summed_none, summed_more, summed_done}
 use Rattle.bits.proofs.count.Statement.{statement}
 use Rattle.bits.proofs.count.Tie as tie
 
@@ -14,7 +14,7 @@ abbrev decreases-loop : tie.decreases-loop
 decreases-loop marks all₀ at₀ all at = length marks - at
 
 loop-holds : tie.Need-loop-init invariant-loop decreases-loop
-loop-holds c = (omega arith, summed-none 64 _)
+loop-holds c = (omega arith, summed_none 64 _)
 
 mul-ones : tie.Need-overflow-mul-ones invariant-loop decreases-loop
 mul-ones c = search rules
@@ -35,10 +35,10 @@ loop-less : tie.Need-loop-smaller invariant-loop decreases-loop
 loop-less c = search rules
 
 loop-again : tie.Need-loop-preserved invariant-loop decreases-loop
-loop-again c = let l = c.before.before.before.loop in (omega arith, summed-more 64 _ _ _ _ l.invariant.1 c.before.before.loop-test.true c.ones.ensures.0 c.ones.ensures.1)
+loop-again c = let l = c.before.before.before.loop in (omega arith, summed_more 64 _ _ _ _ l.invariant.1 c.before.before.loop-test.true c.ones.ensures.0 c.ones.ensures.1)
 
 returns : tie.Need-returns invariant-loop decreases-loop
-returns c = let l = c.before.loop in summed-done 64 _ _ _ l.invariant.1 (omega (arith, l.invariant.0))
+returns c = let l = c.before.loop in summed_done 64 _ _ _ l.invariant.1 (omega (arith, l.invariant.0))
 
 pub count_spec : {M : Type 1} → statement M
 count_spec =

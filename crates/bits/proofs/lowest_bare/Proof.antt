@@ -4,7 +4,7 @@ use native.Mathlib.Omega.{arith}
 use mathlib.Core.Path.{◌≡◌, refl, sym, ap, ◌∙◌}
 use lib.ListN.{length}
 use borrow.Author.Rules.{rules}
-use Rattle.bits.specs.laws.Words.{Full, full-none, full-more, full-stop, full-end}
+use Rattle.bits.specs.laws.Words.{Full, full_none, full-more, full-stop, full_end}
 use Rattle.bits.proofs.lowest_bare.Statement.{statement}
 use Rattle.bits.proofs.lowest_bare.Tie as tie
 
@@ -15,7 +15,7 @@ abbrev decreases-loop : tie.decreases-loop
 decreases-loop marks n i₀ i = n - i
 
 loop-holds : tie.Need-loop-init invariant-loop decreases-loop
-loop-holds c = (refl, full-none 64 _)
+loop-holds c = (refl, full_none 64 _)
 
 mul-trailing-ones : tie.Need-overflow-mul-trailing-ones invariant-loop decreases-loop
 mul-trailing-ones c = search rules
@@ -52,7 +52,7 @@ mul-result-2 : tie.Need-overflow-mul-result-2 invariant-loop decreases-loop
 mul-result-2 c = search rules
 
 returns-2 : tie.Need-returns-2 invariant-loop decreases-loop
-returns-2 c = full-end 64 _ _ c.before.loop.invariant.1 (omega arith)
+returns-2 c = full_end 64 _ _ c.before.loop.invariant.1 (omega arith)
 
 pub lowest-bare-spec : {M : Type 1} → statement M
 lowest-bare-spec =

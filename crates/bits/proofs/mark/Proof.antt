@@ -2,7 +2,7 @@
 use Prim.Native.Nat.{◌/◌}
 use lib.ListN.{length-set}
 use borrow.Author.Rules.{rules}
-use Rattle.bits.specs.laws.Words.{mark-put}
+use Rattle.bits.specs.laws.Words.{mark_put}
 use Rattle.bits.proofs.mark.Statement.{statement}
 use Rattle.bits.proofs.mark.Tie as tie
 
@@ -26,7 +26,7 @@ same_length c = search rules
 
 returns : tie.Need-returns
 returns c = let s = c.before.before.before in
-    (length-set s.args.marks.now (s.args.p / 64) c.with-set.result, mark-put s.args.marks.now s.args.p s.requires _ c.with-set.ensures)
+    (length-set s.args.marks.now (s.args.p / 64) c.with-set.result, mark_put s.args.marks.now s.args.p s.requires _ c.with-set.ensures)
 
 pub mark_spec : {M : Type 1} → statement M
 mark_spec =

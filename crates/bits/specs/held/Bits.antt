@@ -12,8 +12,8 @@ spread n [] = []
 spread n (w ∷ ws) = bits_of n w ++ spread n ws
 
 -- the marks that words of 64 bits hold
-abbrev pub marksOf : List ℕ → List ℕ
-marksOf words = spread 64 words
+abbrev pub marks_of : List ℕ → List ℕ
+marks_of words = spread 64 words
 
 -- how many marks are set: their sum
 unfoldable pub sum_of : List ℕ → ℕ

@@ -9,27 +9,27 @@ use mathlib.Core.List.{List, [], ◌∷◌, ◌++◌}
 use Rattle.std.proofs.Math.ListN.{length, get_or, set, length-append, get_or-append}
 use Rattle.std.proofs.lemmas.List.{set-append_left}
 use Rattle.std.proofs.Math.Seq.{get_or-append-add}
-use Rattle.whole.specs.Lists.{leastIndex}
-use Rattle.whole.specs.laws.Index.{index-past, index-within, any-index}
-use Rattle.whole.specs.laws.Search.{drop-next, drop-end}
-use Rattle.bits.specs.Lowest.{lowestBare}
-use Rattle.bits.specs.held.Bits.{bits_of, spread, marksOf, sum_of}
-use Rattle.bits.specs.laws.Word.{length-bits, bit-small, bits_none}
+use Rattle.whole.specs.Lists.{least_index}
+use Rattle.whole.specs.laws.Index.{index_past, index_within, any_index}
+use Rattle.whole.specs.laws.Search.{drop-next, drop_end}
+use Rattle.bits.specs.Lowest.{lowest_bare_of}
+use Rattle.bits.specs.held.Bits.{bits_of, spread, marks_of, sum_of}
+use Rattle.bits.specs.laws.Word.{length-bits, bit_small, bits_none}
 
 -- a store, and what holds of all, in the second of two lists
-set-second : (a b : List ℕ) (i x : ℕ) → set (a ++ b) (length a + i) x ≡ a ++ set b i x
-set-second [] b i x = ap (λ (j : ℕ). set b j x) (zero-add i)
-set-second (y ∷ a) b i x = ap (λ (j : ℕ). set (y ∷ a ++ b) j x) (suc-add (length a) i) ∙ ap (λ (l : List ℕ). y ∷ l) (set-second a b i x)
+set_second : (a b : List ℕ) (i x : ℕ) → set (a ++ b) (length a + i) x ≡ a ++ set b i x
+set_second [] b i x = ap (λ (j : ℕ). set b j x) (zero-add i)
+set_second (y ∷ a) b i x = ap (λ (j : ℕ). set (y ∷ a ++ b) j x) (suc-add (length a) i) ∙ ap (λ (l : List ℕ). y ∷ l) (set_second a b i x)
 
 all_append : (P : ℕ → Type 0) (a b : List ℕ) → ((p : ℕ) → P (get_or a p 0)) → ((p : ℕ) → P (get_or b p 0)) → (p : ℕ) → P (get_or (a ++ b) p 0)
 all_append P [] b f g p = g p
 all_append P (x ∷ a) b f g zero = f zero
 all_append P (x ∷ a) b f g (suc p) = all_append P a b (λ q. f (suc q)) g p
 
-sum-append : (a b : List ℕ) → sum_of (a ++ b) ≡ sum_of a + sum_of b
+sum_append : (a b : List ℕ) → sum_of (a ++ b) ≡ sum_of a + sum_of b
 unfolding sum_of
-sum-append [] b = sym (zero-add (sum_of b))
-sum-append (x ∷ a) b = ap (λ (y : ℕ). x + y) (sum-append a b) ∙ sym (add_assoc x (sum_of a) (sum_of b))
+sum_append [] b = sym (zero-add (sum_of b))
+sum_append (x ∷ a) b = ap (λ (y : ℕ). x + y) (sum_append a b) ∙ sym (add_assoc x (sum_of a) (sum_of b))
 
 module _ (n : ℕ) where
   pub length-spread : (ws : List ℕ) → length (spread n ws) ≡ length ws * n
@@ -70,14 +70,14 @@ module _ (n : ℕ) where
       ∙ ap (λ (i : ℕ). set (bits_of n w ++ spread n ws) i 1) (sym (first k))
   spread-set (w ∷ ws) (suc q) k v h l e =
       ap (λ (a : List ℕ). bits_of n w ++ a) (spread-set ws q k v (omega arith) l e)
-      ∙ sym (set-second (bits_of n w) (spread n ws) (q * n + k) 1)
+      ∙ sym (set_second (bits_of n w) (spread n ws) (q * n + k) 1)
       ∙ ap (λ (i : ℕ). set (bits_of n w ++ spread n ws) i 1) (sym (place w q k))
 
   -- marks are 0 or 1
-  pub spread-small : (ws : List ℕ) (p : ℕ) → get_or (spread n ws) p 0 ≤ 1
+  pub spread_small : (ws : List ℕ) (p : ℕ) → get_or (spread n ws) p 0 ≤ 1
   unfolding spread
-  spread-small [] p = zero-le
-  spread-small (w ∷ ws) p = all_append (λ x. x ≤ 1) (bits_of n w) (spread n ws) (bit-small n w) (spread-small ws) p
+  spread_small [] p = zero-le
+  spread_small (w ∷ ws) p = all_append (λ x. x ≤ 1) (bits_of n w) (spread n ws) (bit_small n w) (spread_small ws) p
 
   -- from word i on: its bits, then those of the words after it
   rest : (ws : List ℕ) (i : ℕ) → i < length ws → spread n (drop i ws) ≡ bits_of n (get_or ws i 0) ++ spread n (drop (i + 1) ws)
@@ -90,60 +90,60 @@ module _ (n : ℕ) where
   -- ---- the lowest that is not set, word by word: the words before i are full
   pub record Full (ws : List ℕ) (i : ℕ) : Type 0 where
     pub upto : i ≤ length ws
-    pub past : lowestBare (spread n ws) ≡ i * n + lowestBare (spread n (drop i ws))
+    pub past : lowest_bare_of (spread n ws) ≡ i * n + lowest_bare_of (spread n (drop i ws))
 
-  pub full-none : (ws : List ℕ) → Full ws 0
-  full-none ws = record { upto = zero-le; past = sym (first (lowestBare (spread n ws))) }
+  pub full_none : (ws : List ℕ) → Full ws 0
+  full_none ws = record { upto = zero-le; past = sym (first (lowest_bare_of (spread n ws))) }
 
-  module _ (ws : List ℕ) (i k : ℕ) (f : Full ws i) (h : i < length ws) (e : k ≡ lowestBare (bits_of n (get_or ws i 0))) (m : k ≤ n) where
+  module _ (ws : List ℕ) (i k : ℕ) (f : Full ws i) (h : i < length ws) (e : k ≡ lowest_bare_of (bits_of n (get_or ws i 0))) (m : k ≤ n) where
     abbrev word : List ℕ
     word = bits_of n (get_or ws i 0)
 
     pub full-more : (k < n → ⊥) → Full ws (i + 1)
-    unfolding lowestBare
+    unfolding lowest_bare_of
     full-more g = record {
       upto = omega arith;
       past =
           f.past
-          ∙ ap (λ (x : ℕ). i * n + x) (ap lowestBare (rest ws i h) ∙ index-past (eqb 0) word (spread n (drop (i + 1) ws)) (sym e ∙ all ∙ sym (length-bits n (get_or ws i 0))) ∙ ap (λ (x : ℕ). x + lowestBare (spread n (drop (i + 1) ws))) (length-bits n (get_or ws i 0)))
-          ∙ next i (lowestBare (spread n (drop (i + 1) ws)));
+          ∙ ap (λ (x : ℕ). i * n + x) (ap lowest_bare_of (rest ws i h) ∙ index_past (eqb 0) word (spread n (drop (i + 1) ws)) (sym e ∙ all ∙ sym (length-bits n (get_or ws i 0))) ∙ ap (λ (x : ℕ). x + lowest_bare_of (spread n (drop (i + 1) ws))) (length-bits n (get_or ws i 0)))
+          ∙ next i (lowest_bare_of (spread n (drop (i + 1) ws)));
     }
       where
         all : k ≡ n
         all = omega arith
 
-    pub full-stop : k < n → i * n + k ≡ lowestBare (spread n ws)
-    unfolding lowestBare
-    full-stop l = ap (λ (x : ℕ). i * n + x) (e ∙ sym (ap lowestBare (rest ws i h) ∙ index-within (eqb 0) word (spread n (drop (i + 1) ws)) (rw length-bits (rw e at l)))) ∙ sym f.past
+    pub full-stop : k < n → i * n + k ≡ lowest_bare_of (spread n ws)
+    unfolding lowest_bare_of
+    full-stop l = ap (λ (x : ℕ). i * n + x) (e ∙ sym (ap lowest_bare_of (rest ws i h) ∙ index_within (eqb 0) word (spread n (drop (i + 1) ws)) (rw length-bits (rw e at l)))) ∙ sym f.past
 
-  pub full-end : (ws : List ℕ) (i : ℕ) → Full ws i → length ws ≤ i → length ws * n ≡ lowestBare (spread n ws)
-  unfolding spread lowestBare leastIndex
-  full-end ws i f h =
+  pub full_end : (ws : List ℕ) (i : ℕ) → Full ws i → length ws ≤ i → length ws * n ≡ lowest_bare_of (spread n ws)
+  unfolding spread lowest_bare_of least_index
+  full_end ws i f h =
       let e : i ≡ length ws = omega (arith, f.upto) in
-      sym (f.past ∙ ap₂ (λ (x : ℕ) (l : List ℕ). x * n + lowestBare (spread n l)) e (drop-end ws i e) ∙ add-zero (length ws * n))
+      sym (f.past ∙ ap₂ (λ (x : ℕ) (l : List ℕ). x * n + lowest_bare_of (spread n l)) e (drop_end ws i e) ∙ add-zero (length ws * n))
 
   -- ---- how many are set, word by word
   pub record Summed (ws : List ℕ) (i all : ℕ) : Type 0 where
     pub few : all ≤ i * n
     pub sum : all + sum_of (spread n (drop i ws)) ≡ sum_of (spread n ws)
 
-  pub summed-none : (ws : List ℕ) → Summed ws 0 0
-  summed-none ws = record { few = zero-le; sum = zero-add (sum_of (spread n ws)) }
+  pub summed_none : (ws : List ℕ) → Summed ws 0 0
+  summed_none ws = record { few = zero-le; sum = zero-add (sum_of (spread n ws)) }
 
-  pub summed-more : (ws : List ℕ) (i all k : ℕ) → Summed ws i all → i < length ws → k ≡ sum_of (bits_of n (get_or ws i 0)) → k ≤ n → Summed ws (i + 1) (all + k)
-  summed-more ws i all k s h e m = record { few = more; sum = ap (λ (x : ℕ). all + x + sum_of (spread n (drop (i + 1) ws))) e ∙ add_assoc all (sum_of (bits_of n (get_or ws i 0))) (sum_of (spread n (drop (i + 1) ws))) ∙ ap (λ (x : ℕ). all + x) (sym (ap sum_of (rest ws i h) ∙ sum-append (bits_of n (get_or ws i 0)) (spread n (drop (i + 1) ws)))) ∙ s.sum }
+  pub summed_more : (ws : List ℕ) (i all k : ℕ) → Summed ws i all → i < length ws → k ≡ sum_of (bits_of n (get_or ws i 0)) → k ≤ n → Summed ws (i + 1) (all + k)
+  summed_more ws i all k s h e m = record { few = more; sum = ap (λ (x : ℕ). all + x + sum_of (spread n (drop (i + 1) ws))) e ∙ add_assoc all (sum_of (bits_of n (get_or ws i 0))) (sum_of (spread n (drop (i + 1) ws))) ∙ ap (λ (x : ℕ). all + x) (sym (ap sum_of (rest ws i h) ∙ sum_append (bits_of n (get_or ws i 0)) (spread n (drop (i + 1) ws)))) ∙ s.sum }
     where
       more : all + k ≤ (i + 1) * n
       more = let b = ap (λ (x : ℕ). x) (next i 0) in omega (arith, s.few)
 
-  pub summed-done : (ws : List ℕ) (i all : ℕ) → Summed ws i all → i ≡ length ws → all ≡ sum_of (spread n ws)
+  pub summed_done : (ws : List ℕ) (i all : ℕ) → Summed ws i all → i ≡ length ws → all ≡ sum_of (spread n ws)
   unfolding spread sum_of
-  summed-done ws i all s e = sym (add-zero all) ∙ ap (λ (l : List ℕ). all + sum_of (spread n l)) (sym (drop-end ws i e)) ∙ s.sum
+  summed_done ws i all s e = sym (add-zero all) ∙ ap (λ (l : List ℕ). all + sum_of (spread n l)) (sym (drop_end ws i e)) ∙ s.sum
 
 -- ---- words of 64 bits: the mark of p is bit p % 64 of word p / 64
 module _ (ws : List ℕ) (p : ℕ) (h : p / 64 < length ws) where
-  pub mark-at : get_or (bits_of 64 (get_or ws (p / 64) 0)) (p % 64) 0 ≡ get_or (marksOf ws) p 0
-  mark-at = sym (spread_at 64 ws (p / 64) (p % 64) h (omega arith)) ∙ ap (λ (i : ℕ). get_or (marksOf ws) i 0) (div-add-mod' p 64)
+  pub mark-at : get_or (bits_of 64 (get_or ws (p / 64) 0)) (p % 64) 0 ≡ get_or (marks_of ws) p 0
+  mark-at = sym (spread_at 64 ws (p / 64) (p % 64) h (omega arith)) ∙ ap (λ (i : ℕ). get_or (marks_of ws) i 0) (div-add-mod' p 64)
 
-  pub mark-put : (v : ℕ) → bits_of 64 v ≡ set (bits_of 64 (get_or ws (p / 64) 0)) (p % 64) 1 → marksOf (set ws (p / 64) v) ≡ set (marksOf ws) p 1
-  mark-put v e = spread-set 64 ws (p / 64) (p % 64) v h (omega arith) e ∙ ap (λ (i : ℕ). set (marksOf ws) i 1) (div-add-mod' p 64)
+  pub mark_put : (v : ℕ) → bits_of 64 v ≡ set (bits_of 64 (get_or ws (p / 64) 0)) (p % 64) 1 → marks_of (set ws (p / 64) v) ≡ set (marks_of ws) p 1
+  mark_put v e = spread-set 64 ws (p / 64) (p % 64) v h (omega arith) e ∙ ap (λ (i : ℕ). set (marks_of ws) i 1) (div-add-mod' p 64)

@@ -4,7 +4,7 @@ use mathlib.Core.Path.{◌∙◌, ap₂}
 use Prim.Native.Nat.{◌+◌, ◌-◌}
 use borrow.Author.Rules.{rules}
 use borrow.Author.Tests.{eq-eqb}
-use Rattle.plane.specs.Plane.{shareMore}
+use Rattle.plane.specs.Plane.{share_more_of}
 use Rattle.crossing.specs.laws.Pairs.{clash-last, ends_at, ends_same}
 use Rattle.boxes.proofs.clash_last.Statement.{statement}
 use Rattle.boxes.proofs.clash_last.Tie as tie
@@ -29,7 +29,7 @@ returns c =
     let s = c.before.before.before in
     let m = s.args.m in
     let h = s.requires.1 in
-    c.share-more.ensures ∙ ap₂ shareMore c.before.before.edge_at.ensures c.before.edge-at2.ensures
+    c.share-more.ensures ∙ ap₂ share_more_of c.before.before.edge_at.ensures c.before.edge-at2.ensures
     ∙ clash-last m 0 (m - 1) _ _ (omega arith) (λ z. omega arith) (eq-eqb (m - 1 + 1) m (omega arith))
 
 pub clash-last-spec : {M : Type 1} → statement M

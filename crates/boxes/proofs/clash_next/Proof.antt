@@ -3,8 +3,8 @@ use native.Mathlib.Omega.{arith}
 use mathlib.Core.Path.{◌∙◌, refl, ap₂}
 use Prim.Native.Nat.{◌+◌}
 use borrow.Author.Rules.{rules}
-use Rattle.plane.specs.Plane.{shareMore}
-use Rattle.crossing.specs.laws.Pairs.{clash-next, ends_at, ends_same}
+use Rattle.plane.specs.Plane.{share_more_of}
+use Rattle.crossing.specs.laws.Pairs.{clash_next_lem, ends_at, ends_same}
 use Rattle.boxes.proofs.clash_next.Statement.{statement}
 use Rattle.boxes.proofs.clash_next.Tie as tie
 
@@ -26,7 +26,7 @@ share-more-requires c κs =
 returns : tie.Need-returns
 returns c =
     let a = c.before.before.before.args in
-    c.share-more.ensures ∙ ap₂ shareMore c.before.before.edge_at.ensures c.before.edge-at2.ensures ∙ clash-next a.m a.i (a.i + 1) _ _ refl
+    c.share-more.ensures ∙ ap₂ share_more_of c.before.before.edge_at.ensures c.before.edge-at2.ensures ∙ clash_next_lem a.m a.i (a.i + 1) _ _ refl
 
 pub clash-next-spec : {M : Type 1} → statement M
 clash-next-spec =

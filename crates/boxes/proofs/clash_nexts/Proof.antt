@@ -3,7 +3,7 @@ use native.Mathlib.Omega.{arith}
 use Prim.Native.Nat.{◌≤◌, ◌-◌}
 use borrow.Author.Rules.{rules}
 use Rattle.boxes.specs.held.Around.{Nexts}
-use Rattle.boxes.proofs.Nexts.{nexts-none, nexts-more, nexts-end}
+use Rattle.boxes.proofs.Nexts.{nexts_none, nexts_more, nexts_end}
 use Rattle.boxes.proofs.clash_nexts.Statement.{statement}
 use Rattle.boxes.proofs.clash_nexts.Tie as tie
 
@@ -14,7 +14,7 @@ abbrev decreases-loop : tie.decreases-loop
 decreases-loop us vs m found₀ i₀ found i = m - i
 
 loop-holds : tie.Need-loop-init invariant-loop decreases-loop
-loop-holds c = (omega arith, nexts-none _ _ _)
+loop-holds c = (omega arith, nexts_none _ _ _)
 
 add-loop : tie.Need-overflow-add-loop invariant-loop decreases-loop
 add-loop c = search rules
@@ -29,10 +29,10 @@ loop-less : tie.Need-loop-smaller invariant-loop decreases-loop
 loop-less c = search rules
 
 loop-again : tie.Need-loop-preserved invariant-loop decreases-loop
-loop-again c = (omega arith, nexts-more _ _ _ c.before.before.loop.invariant.1 c.before.loop-test.true _ c.clash-next.ensures)
+loop-again c = (omega arith, nexts_more _ _ _ c.before.before.loop.invariant.1 c.before.loop-test.true _ c.clash_next_lem.ensures)
 
 returns : tie.Need-returns invariant-loop decreases-loop
-returns c = nexts-end _ _ _ c.before.loop.invariant.1 c.loop-test.false
+returns c = nexts_end _ _ _ c.before.loop.invariant.1 c.loop-test.false
 
 pub clash-nexts-spec : {M : Type 1} → statement M
 clash-nexts-spec =

@@ -4,8 +4,8 @@ use mathlib.Core.Path.{sym, ◌∙◌}
 use mathlib.Core.Logic.{⊎_elim}
 use Prim.Native.Nat.{◌+◌, ◌<◌}
 use borrow.Author.Rules.{rules}
-use Rattle.boxes.proofs.Nearness.{or-end}
-use Rattle.boxes.proofs.Around.{row-past, row-left, row-short}
+use Rattle.boxes.proofs.Nearness.{or_end}
+use Rattle.boxes.proofs.Around.{row_past, row-left, row-short}
 use Rattle.boxes.proofs.clashes_boxed.Statement.{statement}
 use Rattle.boxes.proofs.clashes_boxed.Tie as tie
 
@@ -28,7 +28,7 @@ returns-2 : tie.Need-returns-2
 returns-2 c =
     let s = c.before.before.before.before.before.before.before in
     let e = c.before.before.end_of_lem in
-    or-end _ _ _ c.clashes-past.ensures (row-left s.requires.1.1.0 e.result (omega arith) e.ensures.2) ∙ row-past s.requires.1.1.0 (omega arith)
+    or_end _ _ _ c.clashes-past.ensures (row-left s.requires.1.1.0 e.result (omega arith) e.ensures.2) ∙ row_past s.requires.1.1.0 (omega arith)
 
 pub clashes-boxed-spec : {M : Type 1} → statement M
 clashes-boxed-spec =

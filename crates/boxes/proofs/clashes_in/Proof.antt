@@ -8,7 +8,7 @@ use Rattle.whole.specs.Lists.{any}
 use Rattle.plane.specs.held.Edges.{edge_at}
 use Rattle.crossing.specs.Crossed.{forbidden}
 use Rattle.crossing.specs.laws.Pairs.{edges, row_here, row_next}
-use Rattle.boxes.proofs.Around.{apart-less}
+use Rattle.boxes.proofs.Around.{apart_less}
 use Rattle.boxes.proofs.clashes_in.Statement.{statement}
 use Rattle.boxes.proofs.clashes_in.Tie as tie
 
@@ -24,7 +24,7 @@ loop-holds c = (omega arith, omega arith, refl)
 clash-past-requires : tie.Need-clash-past-requires invariant-loop decreases-loop
 clash-past-requires c κs =
     let s = c.before.before.before.before.before.before in
-    (s.requires.0, (s.requires.1.0, (omega arith, omega arith, apart-less s.requires.1.1.3 _ (omega arith))))
+    (s.requires.0, (s.requires.1.0, (omega arith, omega arith, apart_less s.requires.1.1.3 _ (omega arith))))
 
 returns : tie.Need-returns invariant-loop decreases-loop
 returns c =

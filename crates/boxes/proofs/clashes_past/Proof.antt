@@ -7,8 +7,8 @@ use Rattle.whole.specs.Lists.{any}
 use Rattle.plane.specs.held.Edges.{edge_at}
 use Rattle.crossing.specs.Crossed.{forbidden}
 use Rattle.crossing.specs.laws.Pairs.{edges}
-use Rattle.boxes.proofs.Nearness.{covered-less, parted-row, or-found, or-next}
-use Rattle.boxes.proofs.Around.{apart-less}
+use Rattle.boxes.proofs.Nearness.{covered_less, parted-row, or_found, or_next}
+use Rattle.boxes.proofs.Around.{apart_less}
 use Rattle.boxes.proofs.clashes_past.Statement.{statement}
 use Rattle.boxes.proofs.clashes_past.Tie as tie
 
@@ -32,15 +32,15 @@ eight-on-requires c κs =
 clashes-eight-requires : tie.Need-clashes-eight-requires invariant-loop decreases-loop
 clashes-eight-requires c κs =
     let s = c.before.before.before.before.before.before.before.requires in
-    (s.0, (s.1.0, (omega arith, omega arith, omega arith, omega arith, omega arith, apart-less s.1.1.2 _ (omega arith))))
+    (s.0, (s.1.0, (omega arith, omega arith, omega arith, omega arith, omega arith, apart_less s.1.1.2 _ (omega arith))))
 
 returns : tie.Need-returns invariant-loop decreases-loop
-returns c = sym c.before.before.before.before.loop.invariant.2 ∙ or-found _ _ _ c.before.clashes-eight.ensures c.if1.true
+returns c = sym c.before.before.before.before.loop.invariant.2 ∙ or_found _ _ _ c.before.clashes-eight.ensures c.if1.true
 
 next-near-requires : tie.Need-next-near-requires invariant-loop decreases-loop
 next-near-requires c κs =
     let s = c.before.before.before.before.before.before.before.before.before.requires in
-    ((covered-less s.1.0.on-u.blocks s.1.1.1, covered-less s.1.0.on-v.blocks s.1.1.1), (omega (arith, s.1.0.few), omega arith, omega arith))
+    ((covered_less s.1.0.on_u.blocks s.1.1.1, covered_less s.1.0.on-v.blocks s.1.1.1), (omega (arith, s.1.0.few), omega arith, omega arith))
 
 loop-less : tie.Need-loop-smaller invariant-loop decreases-loop
 loop-less c = omega arith
@@ -53,7 +53,7 @@ loop-again c =
       omega arith,
       n.1,
       sym (parted-row s.requires.1.0 s.args.i s.requires.1.1.2 n.2 refl (omega arith) c.next-near.result n.0 (omega arith) (omega arith) n.1)
-          ∙ or-next _ _ _ c.before.before.clashes-eight.ensures c.before.if1.false ∙ l.loop.invariant.2,
+          ∙ or_next _ _ _ c.before.before.clashes-eight.ensures c.before.if1.false ∙ l.loop.invariant.2,
     )
 
 returns-2 : tie.Need-returns-2 invariant-loop decreases-loop

@@ -4,7 +4,7 @@ use mathlib.Core.Path.{◌≡◌, subst}
 use Prim.Native.Nat.{ℕ, ◌+◌, ◌-◌, ◌≤◌}
 use borrow.Author.Rules.{rules}
 use Rattle.boxes.specs.held.Boxes.{Parted}
-use Rattle.boxes.proofs.Nearness.{parted-none, parted-one, parted-join, parted-until}
+use Rattle.boxes.proofs.Nearness.{parted-none, parted-one, parted-join, parted_until}
 use Rattle.boxes.proofs.eight_parted.Statement.{statement}
 use Rattle.boxes.proofs.eight_parted.Tie as tie
 
@@ -37,7 +37,7 @@ loop-again c =
     let l = c.before.before.before in
     let j = l.before.before.before.before.before.args.j in
     let z : j + l.loop.n + 1 ≡ j + (l.loop.n + 1) = omega arith in
-    (omega arith, parted-until z (parted-join l.loop.invariant.1 (parted-one (j + l.loop.n) _ _ c.before.parted.ensures c.parted2.ensures)))
+    (omega arith, parted_until z (parted-join l.loop.invariant.1 (parted-one (j + l.loop.n) _ _ c.before.parted.ensures c.parted2.ensures)))
 
 returns : tie.Need-returns invariant-loop decreases-loop
 returns c =

@@ -6,7 +6,7 @@ use Prim.Native.Nat.{◌+◌, ◌*◌, ◌-◌, ◌≤◌}
 use borrow.Author.Rules.{rules}
 use borrow.Author.Tests.{not-false}
 use Rattle.boxes.specs.held.Boxes.{Parted}
-use Rattle.boxes.proofs.Nearness.{parted-none, parted-join, parted-where, parted-until}
+use Rattle.boxes.proofs.Nearness.{parted-none, parted-join, parted_where, parted_until}
 use Rattle.boxes.proofs.far.Statement.{statement}
 use Rattle.boxes.proofs.far.Tie as tie
 
@@ -42,7 +42,7 @@ loop-less c = search rules
 loop-again : tie.Need-loop-preserved invariant-loop decreases-loop
 loop-again c =
     let z : 144 + c.before.before.before.loop.c + 8 ≡ 144 + (c.before.before.before.loop.c + 8) = omega arith in
-    (omega arith, omega arith, parted-until z (parted-join c.before.before.before.loop.invariant.2 (parted-where c.before.eight-parted.ensures (not-false c.before.eight-parted.result c.if1.false))))
+    (omega arith, omega arith, parted_until z (parted-join c.before.before.before.loop.invariant.2 (parted_where c.before.eight-parted.ensures (not-false c.before.eight-parted.result c.if1.false))))
 
 returns-2 : tie.Need-returns-2 invariant-loop decreases-loop
 returns-2 c = c.before.loop.invariant

@@ -42,7 +42,7 @@ first-past-requires c κs =
     let u = v.before.before.before.before.before in
     let e = u.before.before.before in
     let s = e.before in
-    (s.requires.0, (record { few = s.requires.1.1; on-u = u.sides.ensures; on-v = v.sides2.ensures }, e.first-near.ensures))
+    (s.requires.0, (record { few = s.requires.1.1; on_u = u.sides.ensures; on-v = v.sides2.ensures }, e.first-near.ensures))
 
 returns : tie.Need-returns
 returns c = search rules

@@ -2,7 +2,7 @@
 use native.Mathlib.Omega.{arith}
 use mathlib.Core.Path.{sym, ◌∙◌}
 use borrow.Author.Rules.{rules}
-use Rattle.boxes.proofs.Nexts.{nexts-false, next-none, near_next, near_last}
+use Rattle.boxes.proofs.Nexts.{nexts_false, next-none, near_next, near_last}
 use Rattle.boxes.proofs.first_near.Statement.{statement}
 use Rattle.boxes.proofs.first_near.Tie as tie
 
@@ -28,7 +28,7 @@ returns-3 : tie.Need-returns-3
 returns-3 c = near_next _ _ _ c.first-next2.ensures (λ h. sym c.before.before.before.before.clash-last.ensures ∙ c.before.before.before.if2.false)
 
 returns-4 : tie.Need-returns-4
-returns-4 c = near_next _ _ _ (next-none _ _ _ (nexts-false _ _ _ c.before.clash-nexts.ensures c.if3.false)) (λ h. sym c.before.before.before.clash-last.ensures ∙ c.before.before.if2.false)
+returns-4 c = near_next _ _ _ (next-none _ _ _ (nexts_false _ _ _ c.before.clash-nexts.ensures c.if3.false)) (λ h. sym c.before.before.before.clash-last.ensures ∙ c.before.before.if2.false)
 
 pub first-near-spec : {M : Type 1} → statement M
 first-near-spec =

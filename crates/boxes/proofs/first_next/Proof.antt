@@ -5,7 +5,7 @@ use mathlib.Core.Bool.{false}
 use Prim.Native.Nat.{◌≤◌, ◌-◌}
 use borrow.Author.Rules.{rules}
 use Rattle.boxes.specs.held.Around.{Nexts}
-use Rattle.boxes.proofs.Nexts.{nexts-none, nexts-more, nexts-end, next-found, next-none}
+use Rattle.boxes.proofs.Nexts.{nexts_none, nexts_more, nexts_end, next_found, next-none}
 use Rattle.boxes.proofs.first_next.Statement.{statement}
 use Rattle.boxes.proofs.first_next.Tie as tie
 
@@ -16,7 +16,7 @@ abbrev decreases-loop : tie.decreases-loop
 decreases-loop us vs m i₀ i = m - i
 
 loop-holds : tie.Need-loop-init invariant-loop decreases-loop
-loop-holds c = (omega arith, nexts-none _ _ _)
+loop-holds c = (omega arith, nexts_none _ _ _)
 
 add-loop : tie.Need-overflow-add-loop invariant-loop decreases-loop
 add-loop c = search rules
@@ -25,7 +25,7 @@ clash-next-requires : tie.Need-clash-next-requires invariant-loop decreases-loop
 clash-next-requires c κs = (c.before.before.requires.0, c.loop-test.true)
 
 returns : tie.Need-returns invariant-loop decreases-loop
-returns c = next-found _ _ _ c.before.before.before.loop.invariant.1 c.before.before.loop-test.true (sym c.before.clash-next.ensures ∙ c.if1.true)
+returns c = next_found _ _ _ c.before.before.before.loop.invariant.1 c.before.before.loop-test.true (sym c.before.clash_next_lem.ensures ∙ c.if1.true)
 
 add-i : tie.Need-overflow-add-i invariant-loop decreases-loop
 add-i c = search rules
@@ -34,10 +34,10 @@ loop-less : tie.Need-loop-smaller invariant-loop decreases-loop
 loop-less c = search rules
 
 loop-again : tie.Need-loop-preserved invariant-loop decreases-loop
-loop-again c = (omega arith, nexts-more _ _ _ c.before.before.before.loop.invariant.1 c.before.before.loop-test.true false (sym c.if1.false ∙ c.before.clash-next.ensures))
+loop-again c = (omega arith, nexts_more _ _ _ c.before.before.before.loop.invariant.1 c.before.before.loop-test.true false (sym c.if1.false ∙ c.before.clash_next_lem.ensures))
 
 returns-2 : tie.Need-returns-2 invariant-loop decreases-loop
-returns-2 c = next-none _ _ _ (nexts-end _ _ _ c.before.loop.invariant.1 c.loop-test.false)
+returns-2 c = next-none _ _ _ (nexts_end _ _ _ c.before.loop.invariant.1 c.loop-test.false)
 
 pub first-next-spec : {M : Type 1} → statement M
 first-next-spec =

@@ -3,7 +3,7 @@ use native.Mathlib.Omega.{arith}
 use mathlib.Core.Path.{sym, ◌∙◌}
 use Prim.Native.Nat.{◌≤◌, ◌-◌}
 use borrow.Author.Rules.{rules}
-use Rattle.crossing.specs.laws.Pairs.{Clear, clear_none, clear-more, clear-found}
+use Rattle.crossing.specs.laws.Pairs.{Clear, clear_none, clear_more, clear-found}
 use Rattle.boxes.proofs.Nexts.{clear-near}
 use Rattle.boxes.proofs.first_past.Statement.{statement}
 use Rattle.boxes.proofs.first_past.Tie as tie
@@ -37,7 +37,7 @@ loop-less : tie.Need-loop-smaller invariant-loop decreases-loop
 loop-less c = search rules
 
 loop-again : tie.Need-loop-preserved invariant-loop decreases-loop
-loop-again c = (omega arith, clear-more _ _ _ c.before.before.before.loop.invariant.1 (sym c.before.clashes-boxed.ensures ∙ c.if1.false))
+loop-again c = (omega arith, clear_more _ _ _ c.before.before.before.loop.invariant.1 (sym c.before.clashes-boxed.ensures ∙ c.if1.false))
 
 returns-2 : tie.Need-returns-2 invariant-loop decreases-loop
 returns-2 c =

@@ -1,6 +1,6 @@
 -- `boxes::lie_beside` meets its contract. Of fewer edges nothing is known.
 use borrow.Author.Rules.{rules}
-use Rattle.boxes.proofs.Siding.{beside-unknown}
+use Rattle.boxes.proofs.Siding.{beside_unknown}
 use Rattle.boxes.proofs.lie_beside.Statement.{statement}
 use Rattle.boxes.proofs.lie_beside.Tie as tie
 
@@ -8,7 +8,7 @@ add-if1 : tie.Need-overflow-add-if1
 add-if1 c = search rules
 
 returns : tie.Need-returns
-returns c = beside-unknown _ _ _ _
+returns c = beside_unknown _ _ _ _
 
 eight-beside-requires : tie.Need-eight-beside-requires
 eight-beside-requires c κs = search rules

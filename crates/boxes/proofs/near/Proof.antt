@@ -6,7 +6,7 @@ use Prim.Native.Nat.{◌+◌, ◌*◌, ◌-◌, ◌≤◌}
 use borrow.Author.Rules.{rules}
 use borrow.Author.Tests.{not-false}
 use Rattle.boxes.specs.held.Boxes.{Parted}
-use Rattle.boxes.proofs.Nearness.{parted-one, parted-join, parted-where, parted-until}
+use Rattle.boxes.proofs.Nearness.{parted-one, parted-join, parted_where, parted_until}
 use Rattle.boxes.proofs.near.Statement.{statement}
 use Rattle.boxes.proofs.near.Tie as tie
 
@@ -52,7 +52,7 @@ loop-again c =
     let n = c.before.before.before.before.loop.c in
     let z : 144 + n + 1 ≡ 144 + (n + 1) = omega arith in
     let t = not-false (c.before.before.parted.result || c.before.parted2.result) c.if1.false in
-    (omega arith, omega arith, parted-until z (parted-join c.before.before.before.before.loop.invariant.2 (parted-where (parted-one (144 + n) _ _ c.before.before.parted.ensures c.before.parted2.ensures) t)))
+    (omega arith, omega arith, parted_until z (parted-join c.before.before.before.before.loop.invariant.2 (parted_where (parted-one (144 + n) _ _ c.before.before.parted.ensures c.before.parted2.ensures) t)))
 
 returns-2 : tie.Need-returns-2 invariant-loop decreases-loop
 returns-2 c = c.before.loop.invariant

@@ -2,7 +2,7 @@
 use mathlib.Core.Path.{◌∙◌}
 use mir.Syntax.{w64}
 use borrow.Author.Rules.{rules}
-use Rattle.whole.specs.laws.Size.{call-is}
+use Rattle.whole.specs.laws.Size.{call_is}
 use Rattle.plane.specs.Plane.{side}
 use Rattle.plane.specs.laws.Numbers.{spot_back}
 use Rattle.boxes.proofs.off.Statement.{statement}
@@ -14,7 +14,7 @@ side-requires c κs = search rules
 returns : tie.Need-returns
 returns c =
     let h = c.before.before.before.before.before.requires in
-    call-is w64 c.side.type-inv (c.side.ensures ∙ (λ j. side (spot_back _ h.0.from j) (spot_back _ h.0.to j) (spot_back _ h.1 j)))
+    call_is w64 c.side.type-inv (c.side.ensures ∙ (λ j. side (spot_back _ h.0.from j) (spot_back _ h.0.to j) (spot_back _ h.1 j)))
 
 pub off-spec : {M : Type 1} → statement M
 off-spec = tie.close (tie.spec side-requires returns)

@@ -1,14 +1,14 @@
 -- What is told of edges between the places of a ring: those that lie beside another's line, and neighbours.
 use Rattle.std.specs.Prelude.{ℕ, ◌+◌, ◌<◌, ◌≤◌, ◌-◌, ◌≡◌, Bool, true, false, List, drop, ℤ}
 use Rattle.whole.specs.Lists.{any, tab, numbered}
-use Rattle.plane.specs.Plane.{side, sameSign}
+use Rattle.plane.specs.Plane.{side, same_sign}
 use Rattle.plane.specs.held.Edges.{edge_at}
 use Rattle.crossing.specs.Crossed.{forbidden}
 
 -- where r holds, the eight edges from j on lie each on one side of edge i's line
 pub record Beside (us vs : List ℤ) (i j : ℕ) (r : Bool) : Type 0 where
   pub each : r ≡ true → (k : ℕ) → j ≤ k → k < j + 8
-      → sameSign (side (edge_at us vs i).0 (edge_at us vs i).1 (edge_at us vs k).0) (side (edge_at us vs i).0 (edge_at us vs i).1 (edge_at us vs k).1) ≡ true
+      → same_sign (side (edge_at us vs i).0 (edge_at us vs i).1 (edge_at us vs k).0) (side (edge_at us vs i).0 (edge_at us vs i).1 (edge_at us vs k).1) ≡ true
 
 -- edge i of m and its neighbours after it, the last being one of the first, have nothing in common that they may not
 pub record Free (us vs : List ℤ) (m i : ℕ) : Type 0 where

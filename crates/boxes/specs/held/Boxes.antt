@@ -5,7 +5,7 @@ use Rattle.extents.specs.held.Extents.{Sides}
 -- the boxes of m edges and of their blocks
 pub record Boxes (us vs : List ℤ) (m : ℕ) (lus hus lvs hvs : List ℕ) : Type 0 where
   pub few : m ≤ 128
-  pub on-u : Sides us m lus hus
+  pub on_u : Sides us m lus hus
   pub on-v : Sides vs m lvs hvs
 
 -- on one axis, boxes i and k have no step in common

@@ -1,6 +1,6 @@
 -- `building::finding_number` meets its contract, case by case.
 use borrow.Author.Rules.{rules}
-use Rattle.polygon.specs.Ring.{findingNumber}
+use Rattle.polygon.specs.Ring.{finding_number_of}
 use Rattle.building.proofs.finding_number.Statement.{statement}
 use Rattle.building.proofs.finding_number.Tie as tie
 
@@ -32,39 +32,39 @@ enum-told-9 : tie.Need-enum-told-9
 enum-told-9 c = search rules
 
 returns : tie.Need-returns
-unfolding findingNumber
+unfolding finding_number_of
 returns c = search rules
 
 returns-2 : tie.Need-returns-2
-unfolding findingNumber
+unfolding finding_number_of
 returns-2 c = search rules
 
 returns-3 : tie.Need-returns-3
-unfolding findingNumber
+unfolding finding_number_of
 returns-3 c = search rules
 
 returns-4 : tie.Need-returns-4
-unfolding findingNumber
+unfolding finding_number_of
 returns-4 c = search rules
 
 returns-5 : tie.Need-returns-5
-unfolding findingNumber
+unfolding finding_number_of
 returns-5 c = search rules
 
 returns-6 : tie.Need-returns-6
-unfolding findingNumber
+unfolding finding_number_of
 returns-6 c = search rules
 
 returns-7 : tie.Need-returns-7
-unfolding findingNumber
+unfolding finding_number_of
 returns-7 c = search rules
 
 returns-8 : tie.Need-returns-8
-unfolding findingNumber
+unfolding finding_number_of
 returns-8 c = search rules
 
 returns-9 : tie.Need-returns-9
-unfolding findingNumber
+unfolding finding_number_of
 returns-9 c = search rules
 
 pub finding-number-spec : {M : Type 1} → statement M

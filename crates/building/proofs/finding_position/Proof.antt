@@ -1,6 +1,6 @@
 -- `building::finding_position` meets its contract, case by case.
 use borrow.Author.Rules.{rules}
-use Rattle.polygon.specs.Ring.{findingPosition}
+use Rattle.polygon.specs.Ring.{finding_position_of}
 use Rattle.building.proofs.finding_position.Statement.{statement}
 use Rattle.building.proofs.finding_position.Tie as tie
 
@@ -32,39 +32,39 @@ enum-told-6 : tie.Need-enum-told-6
 enum-told-6 c = search rules
 
 returns : tie.Need-returns
-unfolding findingPosition
+unfolding finding_position_of
 returns c = search rules
 
 returns-2 : tie.Need-returns-2
-unfolding findingPosition
+unfolding finding_position_of
 returns-2 c = search rules
 
 returns-3 : tie.Need-returns-3
-unfolding findingPosition
+unfolding finding_position_of
 returns-3 c = search rules
 
 returns-4 : tie.Need-returns-4
-unfolding findingPosition
+unfolding finding_position_of
 returns-4 c = search rules
 
 returns-5 : tie.Need-returns-5
-unfolding findingPosition
+unfolding finding_position_of
 returns-5 c = search rules
 
 returns-6 : tie.Need-returns-6
-unfolding findingPosition
+unfolding finding_position_of
 returns-6 c = search rules
 
 returns-7 : tie.Need-returns-7
-unfolding findingPosition
+unfolding finding_position_of
 returns-7 c = search rules
 
 returns-8 : tie.Need-returns-8
-unfolding findingPosition
+unfolding finding_position_of
 returns-8 c = search rules
 
 returns-9 : tie.Need-returns-9
-unfolding findingPosition
+unfolding finding_position_of
 returns-9 c = search rules
 
 pub finding-position-spec : {M : Type 1} → statement M

@@ -1,22 +1,22 @@
 -- How the arrays and the scalars hold a building.
 use Rattle.std.specs.Prelude.{ℕ, ◌≤◌, ◌<◌, ◌≡◌, Bool, true, ◌||◌, List, ◌⊎◌, length, get_or, take, ℤ, pos}
-use Rattle.whole.specs.Lists.{any, anyTwo, lists}
-use Rattle.polygon.specs.Ring.{isShort}
+use Rattle.whole.specs.Lists.{any, any_two, lists}
+use Rattle.polygon.specs.Ring.{is_short}
 use Rattle.inner.specs.Finding.{finding, part}
-use Rattle.ring.specs.Entries.{isUnclosed, isRepeated}
+use Rattle.ring.specs.Entries.{is_unclosed, is_repeated}
 use Rattle.space.specs.held.Points.{points_of, Coords}
-use Rattle.ring.specs.Polygon.{Polygon, ringsOf}
-use Rattle.ring.specs.held.Rings.{ringAt, polygonAt, polygons, Layout}
+use Rattle.ring.specs.Polygon.{Polygon, rings_of}
+use Rattle.ring.specs.held.Rings.{ring_at, polygon_at, polygons, Layout}
 use Rattle.shell.specs.held.Held.{Entries}
 use Rattle.shell.specs.declared.Shape.{Shape}
-use Rattle.shell.specs.held.Kept.{Listed, Edged, nowOf, alikeIn}
+use Rattle.shell.specs.held.Kept.{Listed, Edged, now_of, alike_in}
 use Rattle.building.specs.declared.Scalars.{Scalars}
-use Rattle.polygon.specs.held.Findings.{keptFinding}
+use Rattle.polygon.specs.held.Findings.{kept_finding}
 use Rattle.building.specs.Tables.{Tables, Building}
 
 -- the tables that the arrays and the scalars hold, in a load and after it
-unfoldable pub heldTables : List ℤ → List ℕ → List ℕ → List ℕ → Scalars → Tables
-heldTables points entries starts firsts s =
+unfoldable pub held_tables : List ℤ → List ℕ → List ℕ → List ℕ → Scalars → Tables
+held_tables points entries starts firsts s =
     record {
       tolerance = s.tolerance;
       points = take s.points (points_of points);
@@ -40,10 +40,10 @@ arrays points entries starts firsts stamps findings parts table turned =
     record { points = points; entries = entries; starts = starts; firsts = firsts; stamps = stamps; findings = findings; parts = parts; table = table; turned = turned }
 
 -- the building that they hold after a load
-unfoldable pub heldBuilding : Arrays → Scalars → Building
-heldBuilding a s =
+unfoldable pub held_building : Arrays → Scalars → Building
+held_building a s =
     record {
-      tables = heldTables a.points a.entries a.starts a.firsts s;
+      tables = held_tables a.points a.entries a.starts a.firsts s;
       last = s.last;
       stamps = take s.polygons a.stamps;
     }
@@ -55,7 +55,7 @@ pub record Loaded (points : List ℤ) (entries starts firsts : List ℕ) (s : Sc
   pub layout : Layout entries starts firsts s.polygons
   pub entered : Entries entries (get_or starts (get_or firsts s.polygons 0) 0) s.points
   pub tolerant : s.tolerance ≤ 1000
-  pub short : (r : ℕ) → r < get_or firsts s.polygons 0 → length (ringAt entries starts r) ≤ 128
+  pub short : (r : ℕ) → r < get_or firsts s.polygons 0 → length (ring_at entries starts r) ≤ 128
 
 -- the arrays that a load does not fill
 pub record Sizes (a : Arrays) : Type 0 where
@@ -68,35 +68,35 @@ pub record Sizes (a : Arrays) : Type 0 where
 -- every kept finding, with its position, is that of the present points and polygons
 pub record Found (points : List ℤ) (entries starts firsts findings : List ℕ) (s : Scalars) : Type 0 where
   pub size : length findings ≡ 256
-  pub each : (p : ℕ) → p < s.polygons → get_or findings p 0 ≡ keptFinding (finding s.tolerance (points_of points) (polygonAt entries starts firsts p))
+  pub each : (p : ℕ) → p < s.polygons → get_or findings p 0 ≡ kept_finding (finding s.tolerance (points_of points) (polygon_at entries starts firsts p))
 
 -- and so is every kept part
 pub record Summed (points : List ℤ) (entries starts firsts : List ℕ) (parts : List ℤ) (s : Scalars) : Type 0 where
   pub size : length parts ≡ 256
-  pub each : (p : ℕ) → p < s.polygons → get_or parts p (pos 0) ≡ part (points_of points) (polygonAt entries starts firsts p)
+  pub each : (p : ℕ) → p < s.polygons → get_or parts p (pos 0) ≡ part (points_of points) (polygon_at entries starts firsts p)
 
 -- whether a ring fails one of checks 01 to 03
-unfoldable pub isBroken : List ℕ → Bool
-isBroken ring = isShort ring || isUnclosed ring || isRepeated ring
+unfoldable pub is_broken : List ℕ → Bool
+is_broken ring = is_short ring || is_unclosed ring || is_repeated ring
 
 -- whether two rings list one number
-unfoldable pub shareNumber : List ℕ → List ℕ → Bool
-shareNumber r s = any (λ n. lists n s) r
+unfoldable pub share_number : List ℕ → List ℕ → Bool
+share_number r s = any (λ n. lists n s) r
 
 -- whether no correction mends a polygon: some ring fails one of checks 01 to 03, or two list one number, whose point they share wherever
 -- it stands
-unfoldable pub isUnmendable : Polygon → Bool
-isUnmendable p = any isBroken (ringsOf p) || anyTwo shareNumber (ringsOf p)
+unfoldable pub is_unmendable_of : Polygon → Bool
+is_unmendable_of p = any is_broken (rings_of p) || any_two share_number (rings_of p)
 
 -- some polygon is so
 pub record Broken (entries starts firsts : List ℕ) (n : ℕ) : Type 0 where
   pub polygon : ℕ
   pub below : polygon < n
-  pub broken : isUnmendable (polygonAt entries starts firsts polygon) ≡ true
+  pub broken : is_unmendable_of (polygon_at entries starts firsts polygon) ≡ true
 
 -- `now` is the shape that the kept table, flags and verdict tell: that of the present polygons, where each ring passes 01 to 03
 abbrev pub Shown : List ℕ → ℕ → List ℕ → Shape → Shape → Type 0
-Shown table edges turned fixed now = now ≡ nowOf fixed (alikeIn turned (take edges table))
+Shown table edges turned fixed now = now ≡ now_of fixed (alike_in turned (take edges table))
 
 -- what is kept of a held building is what the definitions give for the present points and rings; the edge table, whatever they are
 pub record Kept (points : List ℤ) (entries starts firsts findings : List ℕ) (parts : List ℤ) (table turned : List ℕ) (s : Scalars) : Type 0 where
@@ -117,7 +117,7 @@ pub record Held (a : Arrays) (s : Scalars) : Type 0 where
 -- what is held after it is the building b
 pub record Did (b : Building) (a : Arrays) (s : Scalars) : Type 0 where
   pub held : Held a s
-  pub is : heldBuilding a s ≡ b
+  pub is : held_building a s ≡ b
 
 -- the scalars after a correction: its number is the last
 abbrev pub corrected : Scalars → ℕ → Shape → Scalars

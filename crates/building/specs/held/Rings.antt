@@ -8,6 +8,6 @@ cut a e l = take (e - a) (drop a l)
 
 -- polygon p stands in the tables
 pub record Stands (entries starts firsts : List ℕ) (p : ℕ) : Type 0 where
-  pub firsts-size : length firsts ≡ 257
+  pub firsts_size : length firsts ≡ 257
   pub few : p < 256
   pub lies : Lies entries starts (get_or firsts p 0) (get_or firsts (p + 1) 0)

@@ -4,20 +4,20 @@ use Rattle.whole.specs.laws.Agree.{agree}
 use Rattle.shell.specs.declared.Shape.{Shape}
 use Rattle.building.specs.held.Holds.{Shown}
 use Rattle.polygon.specs.declared.Finding.{Finding}
-use Rattle.polygon.specs.Ring.{findingNumber, findingPosition}
+use Rattle.polygon.specs.Ring.{finding_number_of, finding_position_of}
 
-pub close-ring-agrees : (starts : List ℕ) (n end : ℕ) (s₁ s₂ : List ℕ) → s₁ ≡ set starts (n + 1) end → s₂ ≡ set starts (n + 1) end → s₁ ≡ s₂
-close-ring-agrees starts n end s₁ s₂ = agree
+pub close_ring_agrees : (starts : List ℕ) (n end : ℕ) (s₁ s₂ : List ℕ) → s₁ ≡ set starts (n + 1) end → s₂ ≡ set starts (n + 1) end → s₁ ≡ s₂
+close_ring_agrees starts n end s₁ s₂ = agree
 
-pub close-polygon-agrees : (firsts : List ℕ) (n end : ℕ) (s₁ s₂ : List ℕ) → s₁ ≡ set firsts (n + 1) end → s₂ ≡ set firsts (n + 1) end → s₁ ≡ s₂
-close-polygon-agrees firsts n end s₁ s₂ = agree
+pub close_polygon_agrees : (firsts : List ℕ) (n end : ℕ) (s₁ s₂ : List ℕ) → s₁ ≡ set firsts (n + 1) end → s₂ ≡ set firsts (n + 1) end → s₁ ≡ s₂
+close_polygon_agrees firsts n end s₁ s₂ = agree
 
-pub finding-number-agrees : (f : Finding) (r₁ r₂ : ℕ) → r₁ ≡ findingNumber f → r₂ ≡ findingNumber f → r₁ ≡ r₂
-finding-number-agrees f r₁ r₂ = agree
+pub finding_number_agrees : (f : Finding) (r₁ r₂ : ℕ) → r₁ ≡ finding_number_of f → r₂ ≡ finding_number_of f → r₁ ≡ r₂
+finding_number_agrees f r₁ r₂ = agree
 
-pub finding-position-agrees : (f : Finding) (r₁ r₂ : ℕ) → r₁ ≡ findingPosition f → r₂ ≡ findingPosition f → r₁ ≡ r₂
-finding-position-agrees f r₁ r₂ = agree
+pub finding_position_agrees : (f : Finding) (r₁ r₂ : ℕ) → r₁ ≡ finding_position_of f → r₂ ≡ finding_position_of f → r₁ ≡ r₂
+finding_position_agrees f r₁ r₂ = agree
 
 -- the shape that is kept is one
-pub shown-agrees : {t t' : List ℕ} {k k' : ℕ} {u u' : List ℕ} {f f' r r' : Shape} → t ≡ t' → k ≡ k' → u ≡ u' → f ≡ f' → Shown t k u f r → Shown t' k' u' f' r' → r ≡ r'
-shown-agrees {t' = t'} {k' = k'} {u' = u'} {f' = f'} {r = r} e₁ e₂ e₃ e₄ x y = let z : Shown t' k' u' f' r = rw (e₁, e₂, e₃, e₄) at x in agree z y
+pub shown_agrees : {t t' : List ℕ} {k k' : ℕ} {u u' : List ℕ} {f f' r r' : Shape} → t ≡ t' → k ≡ k' → u ≡ u' → f ≡ f' → Shown t k u f r → Shown t' k' u' f' r' → r ≡ r'
+shown_agrees {t' = t'} {k' = k'} {u' = u'} {f' = f'} {r = r} e₁ e₂ e₃ e₄ x y = let z : Shown t' k' u' f' r = rw (e₁, e₂, e₃, e₄) at x in agree z y

@@ -3,12 +3,12 @@ use Rattle.std.specs.Prelude.{ℕ, ◌≡◌, false, List, [], ◌∷◌, eqb}
 use Rattle.std.proofs.Common.{true≢false}
 use Rattle.std.proofs.lemmas.Bool.{not-false}
 use Rattle.whole.specs.Lists.{last_of}
-use Rattle.polygon.specs.Ring.{isShort}
-use Rattle.ring.specs.Entries.{isUnclosed, isRepeated}
+use Rattle.polygon.specs.Ring.{is_short}
+use Rattle.ring.specs.Entries.{is_unclosed, is_repeated}
 use Rattle.shell.specs.held.Kept.{Sound}
-use Rattle.shell.specs.laws.SoundLaws.{sound-ring}
+use Rattle.shell.specs.laws.SoundLaws.{sound_ring}
 
-pub sound-of : (ring : List ℕ) → isShort ring ≡ false → isUnclosed ring ≡ false → isRepeated ring ≡ false → Sound ring
-unfolding isShort isUnclosed isRepeated
-sound-of [] s u r = absurd (true≢false s)
-sound-of (a ∷ l) s u r = sound-ring a l s (not-false (eqb a (last_of a l)) u) r
+pub sound_of : (ring : List ℕ) → is_short ring ≡ false → is_unclosed ring ≡ false → is_repeated ring ≡ false → Sound ring
+unfolding is_short is_unclosed is_repeated
+sound_of [] s u r = absurd (true≢false s)
+sound_of (a ∷ l) s u r = sound_ring a l s (not-false (eqb a (last_of a l)) u) r

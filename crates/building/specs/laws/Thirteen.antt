@@ -6,183 +6,183 @@ use Rattle.std.proofs.lemmas.Bool.{false≢true}
 use Rattle.std.proofs.Math.Option
 use Rattle.std.proofs.Math.Option.{Option, none, some}
 use Rattle.std.specs.Int.Signed.{le_z}
-use Rattle.whole.specs.Lists.{given, first, firstGiven, numberedFrom, numbered, tally}
+use Rattle.whole.specs.Lists.{given, first, first_given, numbered_from, numbered, tally}
 use Rattle.whole.specs.All as A
 use Rattle.whole.specs.All.{All}
-use Rattle.whole.specs.laws.Alls.{all-imp}
+use Rattle.whole.specs.laws.Alls.{all_imp}
 use Rattle.whole.specs.laws.First.{NoneGiven}
 use Rattle.polygon.specs.declared.Finding.{Finding}
 use Rattle.polygon.specs.declared.Finding.TheVariants.{Sound, Short, Unclosed, Repeated, NoNormal, Crossed}
 use Rattle.space.specs.Space.{Point, places}
-use Rattle.plane.specs.Plane.{largestAxis}
-use Rattle.polygon.specs.Ring.{isShort, edgesIn, ringRows, ringFinding, findingNumber}
+use Rattle.plane.specs.Plane.{largest_axis_of}
+use Rattle.polygon.specs.Ring.{is_short, edges_in, ring_rows, ring_finding, finding_number_of}
 use Rattle.inner.specs.Finding.{finding}
-use Rattle.inner.specs.laws.Checks.{lastChecks, sound-exactly}
-use Rattle.holes.specs.Holes.{componentOf}
-use Rattle.ring.specs.Entries.{isUnclosed, isRepeated, repeatedAt}
-use Rattle.ring.specs.Polygon.{Polygon, ringsOf, allRings}
-use Rattle.normal.specs.Normal.{normal, isZero}
-use Rattle.crossing.specs.Crossed.{isCrossed, crossedAt}
+use Rattle.inner.specs.laws.Checks.{last_checks, sound_exactly}
+use Rattle.holes.specs.Holes.{component_of}
+use Rattle.ring.specs.Entries.{is_unclosed, is_repeated, repeated_at}
+use Rattle.ring.specs.Polygon.{Polygon, rings_of, all_rings}
+use Rattle.normal.specs.Normal.{normal, is_zero_of}
+use Rattle.crossing.specs.Crossed.{is_crossed, crossed_at}
 use Rattle.shell.specs.declared.Shape.{Shape}
 use Rattle.shell.specs.declared.Shape.TheVariants.{Whole, Few, Once, Often, Alike, Apart, Unlinked}
-use Rattle.edges.specs.Edges.{smaller, larger, usedOnce, usedOften, usedAlike}
-use Rattle.shell.specs.Shell.{notReached, notLinked, byEnds, shape, shapeNumber}
+use Rattle.edges.specs.Edges.{smaller, larger, used_once, used_often, used_alike}
+use Rattle.shell.specs.Shell.{not_reached, not_linked, by_ends, shape, shape_number_of}
 use Rattle.building.specs.declared.Verdict.TheVariants.{Accepted, Faulty, Unsound, Inward}
 use Rattle.building.specs.Tables.{Tables}
-use Rattle.building.specs.Report.{checkNumber, shapeFault, findings, isFault, lowestFault, sixVolume, verdict}
+use Rattle.building.specs.Report.{check_number_of, shape_fault, findings, is_fault, lowest_fault, six_volume_of, verdict}
 use Rattle.building.specs.laws.Accepted as Acc
 use Rattle.building.specs.Thirteen.{PassesRing, Passes, Manifold, NoneOfThirteen}
-use Rattle.building.specs.laws.Accepted.{accepted-none-fails, none-fails-accepted, zero-accepted, rows, rows-sound, to_map}
+use Rattle.building.specs.laws.Accepted.{accepted_none_fails, none_fails_accepted, zero_accepted, rows, rows_sound, to_map}
 
 -- ---- one polygon
 
 five : (s u r : Bool) (i : ℕ) (n c : Bool) (j : ℕ) → first Sound (given s Short ∷ given u Unclosed ∷ given r (Repeated i) ∷ given n NoNormal ∷ given c (Crossed j) ∷ []) ≡ Sound
     → (s ≡ false) × (u ≡ false) × (r ≡ false) × (n ≡ false) × (c ≡ false)
-unfolding first given isFault findingNumber
-five true u r i n c j q = absurd (true≢false (ap isFault q))
-five false true r i n c j q = absurd (true≢false (ap isFault q))
-five false false true i n c j q = absurd (true≢false (ap isFault q))
-five false false false i true c j q = absurd (true≢false (ap isFault q))
-five false false false i false true j q = absurd (true≢false (ap isFault q))
+unfolding first given is_fault finding_number_of
+five true u r i n c j q = absurd (true≢false (ap is_fault q))
+five false true r i n c j q = absurd (true≢false (ap is_fault q))
+five false false true i n c j q = absurd (true≢false (ap is_fault q))
+five false false false i true c j q = absurd (true≢false (ap is_fault q))
+five false false false i false true j q = absurd (true≢false (ap is_fault q))
 five false false false i false false j q = (refl, refl, refl, refl, refl)
 
-ring-passes : (points : List Point) (ring : List ℕ) → ringFinding points ring ≡ Sound → PassesRing points ring
-unfolding ringFinding ringRows
-ring-passes points ring q =
+ring_passes : (points : List Point) (ring : List ℕ) → ring_finding points ring ≡ Sound → PassesRing points ring
+unfolding ring_finding ring_rows
+ring_passes points ring q =
     let ps = places points ring in
     let n = normal ps in
-    let es = edgesIn (largestAxis n) ps in
-    let r = five (isShort ring) (isUnclosed ring) (isRepeated ring) (repeatedAt ring) (isZero n) (isCrossed es) (crossedAt es) q in
-    record { not-01 = r.0; not-02 = r.1; not-03 = r.2; not-04 = r.3; not-05 = r.4 }
+    let es = edges_in (largest_axis_of n) ps in
+    let r = five (is_short ring) (is_unclosed ring) (is_repeated ring) (repeated_at ring) (is_zero_of n) (is_crossed es) (crossed_at es) q in
+    record { not_01 = r.0; not_02 = r.1; not_03 = r.2; not_04 = r.3; not_05 = r.4 }
 
-passes-ring : (points : List Point) (ring : List ℕ) → PassesRing points ring → ringFinding points ring ≡ Sound
-unfolding ringFinding ringRows first given
-passes-ring points ring p = rw (p.not-01, p.not-02, p.not-03, p.not-04, p.not-05)
+passes_ring : (points : List Point) (ring : List ℕ) → PassesRing points ring → ring_finding points ring ≡ Sound
+unfolding ring_finding ring_rows first given
+passes_ring points ring p = rw (p.not_01, p.not_02, p.not_03, p.not_04, p.not_05)
 
-pub sound-passes : (tolerance : ℕ) (points : List Point) (p : Polygon) → finding tolerance points p ≡ Sound → Passes tolerance points p
-unfolding lastChecks componentOf
-sound-passes tolerance points p q = let r = (sound-exactly tolerance points p).1 q in go r.0 r.1
+pub sound_passes : (tolerance : ℕ) (points : List Point) (p : Polygon) → finding tolerance points p ≡ Sound → Passes tolerance points p
+unfolding last_checks component_of
+sound_passes tolerance points p q = let r = (sound_exactly tolerance points p).1 q in go r.0 r.1
   where
-    go : All (λ (ring : List ℕ). ringFinding points ring ≡ Sound) (ringsOf p) → NoneGiven (lastChecks tolerance points p) → Passes tolerance points p
-    go each (A.more a (A.more b (A.more c A.none))) = record { rings-pass = all-imp (λ ring e. ring-passes points ring e) each; not-06 = a; not-0E = b; not-0F = c }
+    go : All (λ (ring : List ℕ). ring_finding points ring ≡ Sound) (rings_of p) → NoneGiven (last_checks tolerance points p) → Passes tolerance points p
+    go each (A.more a (A.more b (A.more c A.none))) = record { rings-pass = all_imp (λ ring e. ring_passes points ring e) each; not_06 = a; not_0E = b; not_0F = c }
 
-pub passes-sound : (tolerance : ℕ) (points : List Point) (p : Polygon) → Passes tolerance points p → finding tolerance points p ≡ Sound
-unfolding lastChecks componentOf
-passes-sound tolerance points p x =
-    (sound-exactly tolerance points p).0 (all-imp (λ ring e. passes-ring points ring e) x.rings-pass, A.more x.not-06 (A.more x.not-0E (A.more x.not-0F A.none)))
+pub passes_sound : (tolerance : ℕ) (points : List Point) (p : Polygon) → Passes tolerance points p → finding tolerance points p ≡ Sound
+unfolding last_checks component_of
+passes_sound tolerance points p x =
+    (sound_exactly tolerance points p).0 (all_imp (λ ring e. passes_ring points ring e) x.rings-pass, A.more x.not_06 (A.more x.not_0E (A.more x.not_0F A.none)))
 
 -- ---- all polygons
 
 is_whole : Shape → Bool
-is_whole s = eqb (shapeNumber s) 0
+is_whole s = eqb (shape_number_of s) 0
 
-six-shapes : (f : Bool) (n : ℕ) (o m a : Option ℕ) (r l : Option ℕ)
-    → first Whole (given f (Few n) ∷ Option.map (byEnds Once) o ∷ Option.map (byEnds Often) m ∷ Option.map (byEnds Alike) a ∷ Option.map Apart r ∷ Option.map Unlinked l ∷ []) ≡ Whole
+six_shapes : (f : Bool) (n : ℕ) (o m a : Option ℕ) (r l : Option ℕ)
+    → first Whole (given f (Few n) ∷ Option.map (by_ends Once) o ∷ Option.map (by_ends Often) m ∷ Option.map (by_ends Alike) a ∷ Option.map Apart r ∷ Option.map Unlinked l ∷ []) ≡ Whole
     → (f ≡ false) × (o ≡ none) × (m ≡ none) × (a ≡ none) × (r ≡ none) × (l ≡ none)
-unfolding first given byEnds is_whole shapeNumber
-six-shapes true n o m a r l q = absurd (false≢true (ap is_whole q))
-six-shapes false n (some e) m a r l q = absurd (false≢true (ap is_whole q))
-six-shapes false n none (some e) a r l q = absurd (false≢true (ap is_whole q))
-six-shapes false n none none (some e) r l q = absurd (false≢true (ap is_whole q))
-six-shapes false n none none none (some p) l q = absurd (false≢true (ap is_whole q))
-six-shapes false n none none none none (some v) q = absurd (false≢true (ap is_whole q))
-six-shapes false n none none none none none q = (refl, refl, refl, refl, refl, refl)
+unfolding first given by_ends is_whole shape_number_of
+six_shapes true n o m a r l q = absurd (false≢true (ap is_whole q))
+six_shapes false n (some e) m a r l q = absurd (false≢true (ap is_whole q))
+six_shapes false n none (some e) a r l q = absurd (false≢true (ap is_whole q))
+six_shapes false n none none (some e) r l q = absurd (false≢true (ap is_whole q))
+six_shapes false n none none none (some p) l q = absurd (false≢true (ap is_whole q))
+six_shapes false n none none none none (some v) q = absurd (false≢true (ap is_whole q))
+six_shapes false n none none none none none q = (refl, refl, refl, refl, refl, refl)
 
-pub whole-manifold : (ps : List Polygon) → shape ps ≡ Whole → Manifold ps
+pub whole_manifold : (ps : List Polygon) → shape ps ≡ Whole → Manifold ps
 unfolding shape
-whole-manifold ps q =
-    let rings = allRings ps in
-    let r = six-shapes (ltb (length ps) 4) (length ps) (usedOnce rings) (usedOften rings) (usedAlike rings) (notReached ps) (notLinked ps) q in
-    record { not-07 = r.0; not-08 = r.1; not-09 = r.2; not-0A = r.3; not-0B = r.4; not-0C = r.5 }
+whole_manifold ps q =
+    let rings = all_rings ps in
+    let r = six_shapes (ltb (length ps) 4) (length ps) (used_once rings) (used_often rings) (used_alike rings) (not_reached ps) (not_linked ps) q in
+    record { not_07 = r.0; not_08 = r.1; not_09 = r.2; not_0A = r.3; not_0B = r.4; not_0C = r.5 }
 
-pub manifold-whole : (ps : List Polygon) → Manifold ps → shape ps ≡ Whole
+pub manifold_whole : (ps : List Polygon) → Manifold ps → shape ps ≡ Whole
 unfolding shape first given
-manifold-whole ps m = rw (m.not-07, m.not-08, m.not-09, m.not-0A, m.not-0B, m.not-0C)
+manifold_whole ps m = rw (m.not_07, m.not_08, m.not_09, m.not_0A, m.not_0B, m.not_0C)
 
 -- ---- "accepted exactly when none of the thirteen fails"
 
-pub accepted-none : (t : Tables) → verdict t ≡ Accepted → NoneOfThirteen t
-accepted-none t e =
-    let n = accepted-none-fails t e in
-    record { polygons-pass = all-imp (λ r q. sound-passes t.tolerance t.points r q) n.each; all_pass = whole-manifold t.polygons n.closed; not-0D = n.outward }
+pub accepted_none : (t : Tables) → verdict t ≡ Accepted → NoneOfThirteen t
+accepted_none t e =
+    let n = accepted_none_fails t e in
+    record { polygons-pass = all_imp (λ r q. sound_passes t.tolerance t.points r q) n.each; all_pass = whole_manifold t.polygons n.closed; not_0D = n.outward }
 
-pub none-accepted : (t : Tables) → NoneOfThirteen t → verdict t ≡ Accepted
-none-accepted t n =
-    none-fails-accepted t
-    (record { each = all-imp (λ r q. passes-sound t.tolerance t.points r q) n.polygons-pass; closed = manifold-whole t.polygons n.all_pass; outward = n.not-0D })
+pub none_accepted : (t : Tables) → NoneOfThirteen t → verdict t ≡ Accepted
+none_accepted t n =
+    none_fails_accepted t
+    (record { each = all_imp (λ r q. passes_sound t.tolerance t.points r q) n.polygons-pass; closed = manifold_whole t.polygons n.all_pass; outward = n.not_0D })
 
 -- "Check 00 with 0, 0 is acceptance": no other verdict is so numbered
-pub zero-none : (t : Tables) → checkNumber (verdict t) ≡ 0 → NoneOfThirteen t
-zero-none t e = accepted-none t (zero-accepted t e)
+pub zero-none : (t : Tables) → check_number_of (verdict t) ≡ 0 → NoneOfThirteen t
+zero-none t e = accepted_none t (zero_accepted t e)
 
-pub none-counted : (t : Tables) → NoneOfThirteen t → tally isFault (findings t) ≡ 0
-none-counted t n = Acc.none-counted t (accepted-none-fails t (none-accepted t n))
+pub none-counted : (t : Tables) → NoneOfThirteen t → tally is_fault (findings t) ≡ 0
+none-counted t n = Acc.none-counted t (accepted_none_fails t (none_accepted t n))
 
 -- ---- "otherwise the first failing one is reported with its element"
 
-rows_at : (f : Polygon → Finding) (n : ℕ) (done : List Polygon) (ring : Polygon) (rest : List Polygon) → All (λ (r : Polygon). f r ≡ Sound) done → isFault (f ring) ≡ true
-    → firstGiven (rows n (map f (done ++ ring ∷ rest))) ≡ some (Faulty (n + length done) (f ring))
-unfolding rows firstGiven given numberedFrom isFault findingNumber
+rows_at : (f : Polygon → Finding) (n : ℕ) (done : List Polygon) (ring : Polygon) (rest : List Polygon) → All (λ (r : Polygon). f r ≡ Sound) done → is_fault (f ring) ≡ true
+    → first_given (rows n (map f (done ++ ring ∷ rest))) ≡ some (Faulty (n + length done) (f ring))
+unfolding rows first_given given numbered_from is_fault finding_number_of
 rows_at f n [] ring rest A.none e = let m : n ≡ n + 0 = omega arith in rw e (ap (λ (k : ℕ). some (Faulty k (f ring))) m)
 rows_at f n (r ∷ done) ring rest (A.more q a) e =
-    let ih : firstGiven (rows (suc n) (map f (done ++ ring ∷ rest))) ≡ some (Faulty (suc n + length done) (f ring)) = rows_at f (suc n) done ring rest a e in
+    let ih : first_given (rows (suc n) (map f (done ++ ring ∷ rest))) ≡ some (Faulty (suc n + length done) (f ring)) = rows_at f (suc n) done ring rest a e in
     let m : suc n + length done ≡ n + suc (length done) = omega arith in
     rw q (ih ∙ ap (λ (k : ℕ). some (Faulty k (f ring))) m)
 
 -- "the report names the lowest such polygon as a, with its check"
-pub named-polygon : (t : Tables) (done : List Polygon) (ring : Polygon) (rest : List Polygon) → t.polygons ≡ done ++ ring ∷ rest
-    → All (λ (r : Polygon). finding t.tolerance t.points r ≡ Sound) done → isFault (finding t.tolerance t.points ring) ≡ true
+pub named_polygon : (t : Tables) (done : List Polygon) (ring : Polygon) (rest : List Polygon) → t.polygons ≡ done ++ ring ∷ rest
+    → All (λ (r : Polygon). finding t.tolerance t.points r ≡ Sound) done → is_fault (finding t.tolerance t.points ring) ≡ true
     → verdict t ≡ Faulty (length done) (finding t.tolerance t.points ring)
-unfolding verdict lowestFault numbered rows findings first
-named-polygon t done ring rest e a q =
+unfolding verdict lowest_fault numbered rows findings first
+named_polygon t done ring rest e a q =
     let f : Polygon → Finding = finding t.tolerance t.points in
     let m : 0 + length done ≡ length done = omega arith in
-    let r : firstGiven (rows 0 (map f t.polygons)) ≡ some (Faulty (length done) (f ring)) = ap (λ (l : List Polygon). firstGiven (rows 0 (map f l))) e ∙ rows_at f 0 done ring rest a q ∙ ap (λ (k : ℕ). some (Faulty k (f ring))) m in
+    let r : first_given (rows 0 (map f t.polygons)) ≡ some (Faulty (length done) (f ring)) = ap (λ (l : List Polygon). first_given (rows 0 (map f l))) e ∙ rows_at f 0 done ring rest a q ∙ ap (λ (k : ℕ). some (Faulty k (f ring))) m in
     rw r
 
 module _ (t : Tables) (each : All (λ (r : Polygon). finding t.tolerance t.points r ≡ Sound) t.polygons) where
-  no_rows : firstGiven (rows 0 (map (finding t.tolerance t.points) t.polygons)) ≡ none
-  no_rows = rows-sound 0 (map (finding t.tolerance t.points) t.polygons) (to_map (finding t.tolerance t.points) (λ f. f ≡ Sound) t.polygons each)
+  no_rows : first_given (rows 0 (map (finding t.tolerance t.points) t.polygons)) ≡ none
+  no_rows = rows_sound 0 (map (finding t.tolerance t.points) t.polygons) (to_map (finding t.tolerance t.points) (λ f. f ≡ Sound) t.polygons each)
 
   -- "Only if none has one are these tried"
-  pub then-shape : verdict t ≡ first Accepted (shapeFault (shape t.polygons) ∷ given (le_z (sixVolume t) (pos 0)) Inward ∷ [])
-  unfolding verdict lowestFault numbered rows findings first
-  then-shape = rw no_rows
+  pub then_shape : verdict t ≡ first Accepted (shape_fault (shape t.polygons) ∷ given (le_z (six_volume_of t) (pos 0)) Inward ∷ [])
+  unfolding verdict lowest_fault numbered rows findings first
+  then_shape = rw no_rows
 
-  failing : (s : Shape) → shape t.polygons ≡ s → ltb 0 (shapeNumber s) ≡ true → verdict t ≡ Unsound s
-  unfolding first given shapeFault
-  failing s e f = then-shape ∙ (rw (e, f))
+  failing : (s : Shape) → shape t.polygons ≡ s → ltb 0 (shape_number_of s) ≡ true → verdict t ≡ Unsound s
+  unfolding first given shape_fault
+  failing s e f = then_shape ∙ (rw (e, f))
 
   module _ (ps : List Polygon) (all : t.polygons ≡ ps) where
     pub named-07 : ltb (length ps) 4 ≡ true → verdict t ≡ Unsound (Few (length ps))
-    unfolding shape first given shapeNumber
+    unfolding shape first given shape_number_of
     named-07 h = failing (Few (length ps)) (rw (all, h)) refl
 
-    module _ (not-07 : ltb (length ps) 4 ≡ false) where
-      pub named-08 : (e : ℕ) → usedOnce (allRings ps) ≡ some e → verdict t ≡ Unsound (Once (smaller e) (larger e))
-      unfolding shape first given shapeNumber byEnds
-      named-08 e h = failing (Once (smaller e) (larger e)) (rw (all, not-07, h)) refl
+    module _ (not_07 : ltb (length ps) 4 ≡ false) where
+      pub named-08 : (e : ℕ) → used_once (all_rings ps) ≡ some e → verdict t ≡ Unsound (Once (smaller e) (larger e))
+      unfolding shape first given shape_number_of by_ends
+      named-08 e h = failing (Once (smaller e) (larger e)) (rw (all, not_07, h)) refl
 
-      module _ (not-08 : usedOnce (allRings ps) ≡ none) where
-        pub named-09 : (e : ℕ) → usedOften (allRings ps) ≡ some e → verdict t ≡ Unsound (Often (smaller e) (larger e))
-        unfolding shape first given shapeNumber byEnds
-        named-09 e h = failing (Often (smaller e) (larger e)) (rw (all, not-07, not-08, h)) refl
+      module _ (not_08 : used_once (all_rings ps) ≡ none) where
+        pub named-09 : (e : ℕ) → used_often (all_rings ps) ≡ some e → verdict t ≡ Unsound (Often (smaller e) (larger e))
+        unfolding shape first given shape_number_of by_ends
+        named-09 e h = failing (Often (smaller e) (larger e)) (rw (all, not_07, not_08, h)) refl
 
-        module _ (not-09 : usedOften (allRings ps) ≡ none) where
-          pub named-0A : (e : ℕ) → usedAlike (allRings ps) ≡ some e → verdict t ≡ Unsound (Alike (smaller e) (larger e))
-          unfolding shape first given shapeNumber byEnds
-          named-0A e h = failing (Alike (smaller e) (larger e)) (rw (all, not-07, not-08, not-09, h)) refl
+        module _ (not_09 : used_often (all_rings ps) ≡ none) where
+          pub named-0A : (e : ℕ) → used_alike (all_rings ps) ≡ some e → verdict t ≡ Unsound (Alike (smaller e) (larger e))
+          unfolding shape first given shape_number_of by_ends
+          named-0A e h = failing (Alike (smaller e) (larger e)) (rw (all, not_07, not_08, not_09, h)) refl
 
-          module _ (not-0A : usedAlike (allRings ps) ≡ none) where
-            pub named-0B : (p : ℕ) → notReached ps ≡ some p → verdict t ≡ Unsound (Apart p)
-            unfolding shape first given shapeNumber byEnds
-            named-0B p h = failing (Apart p) (rw (all, not-07, not-08, not-09, not-0A, h)) refl
+          module _ (not_0A : used_alike (all_rings ps) ≡ none) where
+            pub named-0B : (p : ℕ) → not_reached ps ≡ some p → verdict t ≡ Unsound (Apart p)
+            unfolding shape first given shape_number_of by_ends
+            named-0B p h = failing (Apart p) (rw (all, not_07, not_08, not_09, not_0A, h)) refl
 
-            module _ (not-0B : notReached ps ≡ none) where
-              pub named-0C : (v : ℕ) → notLinked ps ≡ some v → verdict t ≡ Unsound (Unlinked v)
-              unfolding shape first given shapeNumber byEnds
-              named-0C v h = failing (Unlinked v) (rw (all, not-07, not-08, not-09, not-0A, not-0B, h)) refl
+            module _ (not_0B : not_reached ps ≡ none) where
+              pub named-0C : (v : ℕ) → not_linked ps ≡ some v → verdict t ≡ Unsound (Unlinked v)
+              unfolding shape first given shape_number_of by_ends
+              named-0C v h = failing (Unlinked v) (rw (all, not_07, not_08, not_09, not_0A, not_0B, h)) refl
 
-              pub named-0D : notLinked ps ≡ none → le_z (sixVolume t) (pos 0) ≡ true → verdict t ≡ Inward
-              unfolding shape first given shapeNumber shapeFault byEnds
-              named-0D h v = then-shape ∙ (rw (v, all, not-07, not-08, not-09, not-0A, not-0B, h))
+              pub named-0D : not_linked ps ≡ none → le_z (six_volume_of t) (pos 0) ≡ true → verdict t ≡ Inward
+              unfolding shape first given shape_number_of shape_fault by_ends
+              named-0D h v = then_shape ∙ (rw (v, all, not_07, not_08, not_09, not_0A, not_0B, h))

@@ -1,7 +1,7 @@
 -- `checker::checker_answer` meets its contract.
 use mir.Syntax.{w64}
 use mir.Facts.{to_z_pos}
-use Rattle.checker.specs.laws.Entry.{entry-empty, entry-long, entry-many, entry-narrow, entry-answered}
+use Rattle.checker.specs.laws.Entry.{entry_empty, entry-long, entry-many, entry-narrow, entry-answered}
 use Rattle.service.specs.laws.Short.{answers-short}
 use native.Mathlib.Omega.{arith}
 use borrow.Author.Rules.{rules}
@@ -9,7 +9,7 @@ use Rattle.checker.proofs.checker_answer.Statement.{statement}
 use Rattle.checker.proofs.checker_answer.Tie as tie
 
 returns : tie.Need-returns
-returns c = entry-empty c.before.before.before.args.stream.now c.before.before.before.args.room.now c.if1.true
+returns c = entry_empty c.before.before.before.args.stream.now c.before.before.before.args.room.now c.if1.true
 
 returns-2 : tie.Need-returns-2
 returns-2 c = entry-long c.before.before.before.before.args.stream.now c.before.before.before.before.args.room.now c.if2.true

@@ -1,12 +1,12 @@
--- `checks::check_all` meets its contract, by the law of end of load (`did-loaded`): the edge table is that of the rings, and the verdict
+-- `checks::check_all` meets its contract, by the law of end of load (`did_loaded`): the edge table is that of the rings, and the verdict
 -- too where no polygon is one that no correction mends.
 use native.Mathlib.Omega.{arith}
 use mathlib.Core.Path.{sym, ◌∙◌}
 use Rattle.whole.specs.laws.Stores.{zeroed-length}
 use Rattle.building.specs.held.Holds.{arrays}
-use Rattle.checks.specs.laws.Check.{checked-found, table-length, did-loaded, built-listed, built-shaped}
-use Rattle.checks.specs.laws.Mendable.{found-telling, unmendable-broken, none-broken}
-use Rattle.checks.specs.laws.Writes.{table-own, scalars-own, shown-own}
+use Rattle.checks.specs.laws.Check.{checked_found, table-length, did_loaded, built-listed, built-shaped}
+use Rattle.checks.specs.laws.Mendable.{found_telling, unmendable_broken, none_broken}
+use Rattle.checks.specs.laws.Writes.{table-own, scalars_own, shown_own}
 use borrow.Author.Rules.{rules}
 use Rattle.checks.proofs.check_all.Statement.{statement}
 use Rattle.checks.proofs.check_all.Tie as tie
@@ -25,13 +25,13 @@ all-mendable-requires c κs =
     let s = c.before.before.before.before.before.before.before.before in
     let ld = s.requires.0 in
     let sz = s.requires.1 in
-    found-telling ld (checked-found ld sz.findings sz.parts c.before.before.before.before.before.check-rings.ensures)
+    found_telling ld (checked_found ld sz.findings sz.parts c.before.before.before.before.before.check-rings.ensures)
 
 built-requires : tie.Need-built-requires
 built-requires c κs =
     let s = c.before.before.before.before.before.before.before.before.before.before in
     let ld = s.requires.0 in
-    (ld.layout, s.requires.1.table, λ t. none-broken ld (sym c.before.all-mendable.ensures ∙ t))
+    (ld.layout, s.requires.1.table, λ t. none_broken ld (sym c.before.all-mendable.ensures ∙ t))
 
 held-shape-requires : tie.Need-held-shape-requires
 held-shape-requires c κs =
@@ -55,16 +55,16 @@ returns c =
     let m = c.before.before.before.before.before.all-mendable.ensures in
     let b = c.before.before.before.built.ensures in
     let h = c.held-shape.ensures in (
-      did-loaded (arrays a.points.now a.entries.now a.starts.now a.firsts.now a.stamps.now a.findings.now a.parts.now a.table.now a.turned.now) a.s ld sz ch st z (table-length a.entries.now a.starts.now a.firsts.now a.s.polygons a.table.now _ ld.layout sz.table b.table_is) _ _ _
+      did_loaded (arrays a.points.now a.entries.now a.starts.now a.firsts.now a.stamps.now a.findings.now a.parts.now a.table.now a.turned.now) a.s ld sz ch st z (table-length a.entries.now a.starts.now a.firsts.now a.s.polygons a.table.now _ ld.layout sz.table b.table_is) _ _ _
           (built-listed (arrays a.points.now a.entries.now a.starts.now a.firsts.now a.stamps.now a.findings.now a.parts.now a.table.now a.turned.now) a.s ld sz a.table.now _ _ _ _ _ b z)
-          (built-shaped (arrays a.points.now a.entries.now a.starts.now a.firsts.now a.stamps.now a.findings.now a.parts.now a.table.now a.turned.now) a.s ld sz a.table.now _ _ _ _ _ b z (λ t. none-broken ld (sym m ∙ t)) (λ t. unmendable-broken a.entries.now a.starts.now a.firsts.now a.s.polygons (sym m ∙ t))) h.1 h.0,
+          (built-shaped (arrays a.points.now a.entries.now a.starts.now a.firsts.now a.stamps.now a.findings.now a.parts.now a.table.now a.turned.now) a.s ld sz a.table.now _ _ _ _ _ b z (λ t. none_broken ld (sym m ∙ t)) (λ t. unmendable_broken a.entries.now a.starts.now a.firsts.now a.s.polygons (sym m ∙ t))) h.1 h.0,
       record {
         stamps = st;
         turned = z;
         each = ch;
         table = table-own (arrays a.points.now a.entries.now a.starts.now a.firsts.now a.stamps.now a.findings.now a.parts.now a.table.now a.turned.now) a.s h.0 m b;
-        scalars = scalars-own (arrays a.points.now a.entries.now a.starts.now a.firsts.now a.stamps.now a.findings.now a.parts.now a.table.now a.turned.now) a.s h.0;
-        shown = shown-own (arrays a.points.now a.entries.now a.starts.now a.firsts.now a.stamps.now a.findings.now a.parts.now a.table.now a.turned.now) a.s h.0 _ _ h.1;
+        scalars = scalars_own (arrays a.points.now a.entries.now a.starts.now a.firsts.now a.stamps.now a.findings.now a.parts.now a.table.now a.turned.now) a.s h.0;
+        shown = shown_own (arrays a.points.now a.entries.now a.starts.now a.firsts.now a.stamps.now a.findings.now a.parts.now a.table.now a.turned.now) a.s h.0 _ _ h.1;
       },
     )
 

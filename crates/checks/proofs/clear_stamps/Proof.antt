@@ -5,7 +5,7 @@ use native.Mathlib.Omega.{arith}
 use borrow.Author.Rules.{rules}
 use lib.ListN.{length}
 use Rattle.whole.specs.held.Stored.{zeroed}
-use Rattle.whole.specs.laws.Stores.{zeroed-none, zeroed-more, zeroed-length}
+use Rattle.whole.specs.laws.Stores.{zeroed-none, zeroed_more, zeroed-length}
 use Rattle.checks.proofs.clear_stamps.Statement.{statement}
 use Rattle.checks.proofs.clear_stamps.Tie as tie
 
@@ -33,7 +33,7 @@ loop-less c = search rules
 loop-again : tie.Need-loop-preserved invariant-loop decreases-loop
 loop-again c =
     let lp = c.before.loop in
-    (lp.invariant.0, (search rules, zeroed-more c.before.before.args.stamps.now lp.p lp.invariant.1.1))
+    (lp.invariant.0, (search rules, zeroed_more c.before.before.args.stamps.now lp.p lp.invariant.1.1))
 
 returns : tie.Need-returns invariant-loop decreases-loop
 returns c =

@@ -4,9 +4,9 @@ use Prim.Native.Nat.{ℕ, ◌+◌}
 use mathlib.Core.Path.{sym, ap₂, ◌∙◌, subst}
 use lib.ListN.{get_or}
 use borrow.Author.Rules.{rules}
-use Rattle.ring.specs.held.Rings.{polygonOf}
+use Rattle.ring.specs.held.Rings.{polygon_of}
 use Rattle.holes.specs.held.Rings.{Lies}
-use Rattle.building.specs.held.Holds.{isUnmendable}
+use Rattle.building.specs.held.Holds.{is_unmendable_of}
 use Rattle.checks.proofs.is_unmendable.Statement.{statement}
 use Rattle.checks.proofs.is_unmendable.Tie as tie
 
@@ -61,7 +61,7 @@ returns-2 : tie.Need-returns-2
 returns-2 c =
     let a = c.before.before.before.before.before.before.args in
     c.is-unmendable.ensures
-    ∙ ap₂ (λ (f t : ℕ). isUnmendable (polygonOf a.entries.now a.starts.now f t)) c.before.before.before.before.wide.ensures c.before.before.wide2.ensures
+    ∙ ap₂ (λ (f t : ℕ). is_unmendable_of (polygon_of a.entries.now a.starts.now f t)) c.before.before.before.before.wide.ensures c.before.before.wide2.ensures
 
 pub is-unmendable-spec : {M : Type 1} → statement M
 is-unmendable-spec =

@@ -6,7 +6,7 @@ use Rattle.building.specs.declared.Scalars.{Scalars}
 use Rattle.building.specs.held.Holds.{Arrays, Shown}
 use Rattle.whole.specs.held.Stored.{zeroed}
 use Rattle.checks.specs.held.Steps.{Checked}
-use Rattle.checks.specs.held.Mendable.{allMendable}
+use Rattle.checks.specs.held.Mendable.{all_mendable_of}
 
 -- the scalars after end of load
 abbrev pub checked : Scalars → ℕ → Shape → Shape → Scalars
@@ -19,6 +19,6 @@ module _ (a : Arrays) (s : Scalars) where
     pub stamps : stamps' ≡ zeroed a.stamps s.polygons
     pub turned : turned' ≡ zeroed a.turned 256
     pub each : Checked s.tolerance a.points a.entries a.starts a.firsts s.polygons a.findings a.parts findings' parts'
-    pub table : Built a.entries a.starts a.firsts s.polygons a.table table' r.edges (allMendable a.entries a.starts a.firsts s.polygons) r.fixed
+    pub table : Built a.entries a.starts a.firsts s.polygons a.table table' r.edges (all_mendable_of a.entries a.starts a.firsts s.polygons) r.fixed
     pub scalars : r ≡ checked s r.edges r.fixed r.shape
     pub shown : Shown table' r.edges turned' r.fixed r.shape

@@ -3,7 +3,7 @@ use Rattle.std.specs.Prelude.{ℕ, ◌+◌, ◌≡◌, List, ltb, length, get_or
 use Rattle.std.proofs.Common.{arith, ap, ◌∙◌, ltb-true, ltb-false}
 use Rattle.std.proofs.Math.Path.{refl}
 use Rattle.std.proofs.Math.ListN.{get_or-eq_default}
-use Rattle.whole.specs.laws.Stores.{cases, length-upto, upto-more, upto_done, upto_rest}
+use Rattle.whole.specs.laws.Stores.{cases, length-upto, upto_more, upto_done, upto_rest}
 use Rattle.whole.specs.held.Stored.{upto, zeroed}
 use Rattle.renew.specs.held.Renewed.{kept_at, part_at, Refreshed}
 use Rattle.checks.specs.held.Steps.{Checked}
@@ -33,6 +33,6 @@ module _ (tolerance : ℕ) (points : List ℤ) (entries starts firsts : List ℕ
       pub checked-more : {findings'' : List ℕ} {parts'' : List ℤ} → Refreshed tolerance points entries starts firsts m findings' parts' findings'' parts'' → Checked tolerance points entries starts firsts (m + 1) findings parts findings'' parts''
       checked-more r =
           record {
-            found = r.found ∙ ap (λ (l : List ℕ). set l m (kept_at tolerance points entries starts firsts m)) ch.found ∙ upto-more (λ p _. kept_at tolerance points entries starts firsts p) 0 findings m;
-            summed = r.summed ∙ ap (λ (l : List ℤ). set l m (part_at points entries starts firsts m)) ch.summed ∙ upto-more (λ p _. part_at points entries starts firsts p) (pos 0) parts m;
+            found = r.found ∙ ap (λ (l : List ℕ). set l m (kept_at tolerance points entries starts firsts m)) ch.found ∙ upto_more (λ p _. kept_at tolerance points entries starts firsts p) 0 findings m;
+            summed = r.summed ∙ ap (λ (l : List ℤ). set l m (part_at points entries starts firsts m)) ch.summed ∙ upto_more (λ p _. part_at points entries starts firsts p) (pos 0) parts m;
           }

@@ -14,8 +14,8 @@ module _ (a : Arrays) (s : Scalars) {edges : ℕ} {fixed shape : Shape} {r : Sca
       (subst (λ (t : Bool). Built a.entries a.starts a.firsts s.polygons a.table table' edges t fixed) q b)
 
   -- the scalars are told by their own edges and shapes
-  pub scalars-own : r ≡ checked s r.edges r.fixed r.shape
-  scalars-own = e ∙ sym (λ j. checked s (e j).edges (e j).fixed (e j).shape)
+  pub scalars_own : r ≡ checked s r.edges r.fixed r.shape
+  scalars_own = e ∙ sym (λ j. checked s (e j).edges (e j).fixed (e j).shape)
 
-  pub shown-own : (table' turned' : List ℕ) → Shown table' edges turned' fixed shape → Shown table' r.edges turned' r.fixed r.shape
-  shown-own table' turned' h = subst (λ (x : Scalars). Shown table' x.edges turned' x.fixed x.shape) (sym e) h
+  pub shown_own : (table' turned' : List ℕ) → Shown table' edges turned' fixed shape → Shown table' r.edges turned' r.fixed r.shape
+  shown_own table' turned' h = subst (λ (x : Scalars). Shown table' x.edges turned' x.fixed x.shape) (sym e) h

@@ -2,8 +2,8 @@
 use native.Mathlib.Omega.{arith}
 use mathlib.Core.Path.{◌∙◌, ap₂}
 use borrow.Author.Rules.{rules}
-use Rattle.plane.specs.Plane.{share, shareMore}
-use Rattle.crossing.specs.laws.Pairs.{clash-next, clash-last, clash-other, ends_at, ends_same}
+use Rattle.plane.specs.Plane.{share, share_more_of}
+use Rattle.crossing.specs.laws.Pairs.{clash_next_lem, clash-last, clash-other, ends_at, ends_same}
 use Rattle.crossing.proofs.clash.Statement.{statement}
 use Rattle.crossing.proofs.clash.Tie as tie
 
@@ -23,7 +23,7 @@ share-more-requires c κs =
     (ends_same c.before.before.edge_at.ensures (ends_at s _ (omega arith)), ends_same c.before.edge-at2.ensures (ends_at s _ (omega arith)))
 
 returns : tie.Need-returns
-returns c = c.share-more.ensures ∙ ap₂ shareMore c.before.before.before.edge_at.ensures c.before.before.edge-at2.ensures ∙ clash-next c.before.before.before.before.args.m c.before.before.before.before.args.i c.before.before.before.before.args.j _ _ c.before.if1.true
+returns c = c.share-more.ensures ∙ ap₂ share_more_of c.before.before.before.edge_at.ensures c.before.before.edge-at2.ensures ∙ clash_next_lem c.before.before.before.before.args.m c.before.before.before.before.args.i c.before.before.before.before.args.j _ _ c.before.if1.true
 
 add-if2 : tie.Need-overflow-add-if2
 add-if2 c = search rules
@@ -36,7 +36,7 @@ share-more-requires-2 c κs =
 
 returns-2 : tie.Need-returns-2
 returns-2 c =
-    c.share-more2.ensures ∙ ap₂ shareMore c.before.before.before.edge-at2.ensures c.before.before.before.before.edge_at.ensures ∙ clash-last c.before.before.before.before.before.args.m c.before.before.before.before.before.args.i c.before.before.before.before.before.args.j _ _ c.before.before.before.before.before.requires.1.0 c.before.before.if1.false c.before.if2.true
+    c.share-more2.ensures ∙ ap₂ share_more_of c.before.before.before.edge-at2.ensures c.before.before.before.before.edge_at.ensures ∙ clash-last c.before.before.before.before.before.args.m c.before.before.before.before.before.args.i c.before.before.before.before.before.args.j _ _ c.before.before.before.before.before.requires.1.0 c.before.before.if1.false c.before.if2.true
 
 share-requires : tie.Need-share-requires
 share-requires c κs =

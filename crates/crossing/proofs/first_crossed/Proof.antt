@@ -3,7 +3,7 @@ use native.Mathlib.Omega.{arith}
 use mathlib.Core.Path.{sym, ◌∙◌}
 use Prim.Native.Nat.{◌≤◌, ◌-◌}
 use borrow.Author.Rules.{rules}
-use Rattle.crossing.specs.laws.Pairs.{Clear, clear_none, clear-more, clear-found, clear-end}
+use Rattle.crossing.specs.laws.Pairs.{Clear, clear_none, clear_more, clear-found, clear-end}
 use Rattle.crossing.proofs.first_crossed.Statement.{statement}
 use Rattle.crossing.proofs.first_crossed.Tie as tie
 
@@ -34,7 +34,7 @@ loop-less c = search rules
 loop-again : tie.Need-loop-preserved invariant-loop decreases-loop
 loop-again c =
     let a = c.before.before.before.before.args in
-    (omega arith, clear-more a.us.now a.vs.now a.m c.before.before.before.loop.invariant.1 (sym c.before.clashes.ensures ∙ c.if1.false))
+    (omega arith, clear_more a.us.now a.vs.now a.m c.before.before.before.loop.invariant.1 (sym c.before.clashes.ensures ∙ c.if1.false))
 
 returns-2 : tie.Need-returns-2 invariant-loop decreases-loop
 returns-2 c =

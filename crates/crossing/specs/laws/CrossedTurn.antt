@@ -4,9 +4,9 @@ use Rattle.std.proofs.Common.{arith, sym, ap, ◌∙◌, eq-eqb, ne_eqb, eqb-tru
 use Rattle.std.proofs.Math.Bool.{and_comm}
 use Rattle.std.proofs.lemmas.Bool.{eqb-false}
 use Rattle.whole.specs.laws.Reverse.{back}
-use Rattle.plane.specs.Plane.{Segment, share, shareMore}
+use Rattle.plane.specs.Plane.{Segment, share, share_more_of}
 use Rattle.crossing.specs.Crossed.{follows, forbidden}
-use Rattle.plane.specs.laws.PlaneTurn.{share_back, shareMore-back}
+use Rattle.plane.specs.laws.PlaneTurn.{share_back, share_more-back}
 
 eqb_same : (a b c d : ℕ) → (a ≡ b → c ≡ d) → (c ≡ d → a ≡ b) → eqb a b ≡ eqb c d
 eqb_same a b c d f g = go (eqb c d) refl
@@ -26,12 +26,12 @@ follows-back m i j hi hj =
 choose : Bool → Bool → Bool → Bool → Bool → Bool
 choose a b p q r = elim a [ true ↦ p | false ↦ elim b [ true ↦ q | false ↦ r ] ]
 
-forbidden-is : (m : ℕ) (x y : ℕ × Segment) → forbidden m x y ≡ choose (follows m x.0 y.0) (follows m y.0 x.0) (shareMore x.1 y.1) (shareMore y.1 x.1) (share x.1 y.1)
+forbidden_is : (m : ℕ) (x y : ℕ × Segment) → forbidden m x y ≡ choose (follows m x.0 y.0) (follows m y.0 x.0) (share_more_of x.1 y.1) (share_more_of y.1 x.1) (share x.1 y.1)
 unfolding forbidden choose
-forbidden-is m x y = refl
+forbidden_is m x y = refl
 
 pub forbidden-back : (m : ℕ) (x y : ℕ × Segment) → x.0 < m → y.0 < m → forbidden m (m - suc y.0, back y.1) (m - suc x.0, back x.1) ≡ forbidden m x y
 forbidden-back m x y hx hy =
-    forbidden-is m (m - suc y.0, back y.1) (m - suc x.0, back x.1)
-    ∙ (λ i. choose (follows-back m x.0 y.0 hx hy i) (follows-back m y.0 x.0 hy hx i) (shareMore-back x.1 y.1 i) (shareMore-back y.1 x.1 i) (share_back x.1 y.1 i))
-    ∙ sym (forbidden-is m x y)
+    forbidden_is m (m - suc y.0, back y.1) (m - suc x.0, back x.1)
+    ∙ (λ i. choose (follows-back m x.0 y.0 hx hy i) (follows-back m y.0 x.0 hy hx i) (share_more-back x.1 y.1 i) (share_more-back y.1 x.1 i) (share_back x.1 y.1 i))
+    ∙ sym (forbidden_is m x y)

@@ -4,18 +4,18 @@ use Rattle.std.proofs.Common.{arith, add-one, ap, ◌∙◌, subst, eq-eqb, ne_e
 use Rattle.std.proofs.Math.Decide.{dec_lt}
 use Rattle.std.proofs.Math.Path.{refl, sym, ap₂}
 use Rattle.whole.specs.Lists.{any, tab, numbered}
-use Rattle.whole.specs.laws.Search.{any_here, any_next, any-end}
+use Rattle.whole.specs.laws.Search.{any_here, any_next, any_end}
 use Rattle.whole.specs.laws.Places.{tab-length, tab-at, numbered-length, numbered-at}
-use Rattle.plane.specs.Plane.{Segment, share, shareMore}
-use Rattle.crossing.specs.Crossed.{follows, forbidden, crossedAt}
+use Rattle.plane.specs.Plane.{Segment, share, share_more_of}
+use Rattle.crossing.specs.Crossed.{follows, forbidden, crossed_at}
 use Rattle.plane.specs.held.Edges.{Ends, edge_at, spot}
 use Rattle.crossing.specs.held.Columns.{Spread}
 use Rattle.crossing.specs.laws.Least.{row, row_first, row-none}
 
 -- ---- which pairs are neighbours: i before j
-follows-yes : (m i j : ℕ) → i + 1 ≡ j → follows m i j ≡ true
+follows_yes : (m i j : ℕ) → i + 1 ≡ j → follows m i j ≡ true
 unfolding follows
-follows-yes m i j e = ap (λ (t : Bool). t || eqb j 0 && eqb (suc i) m) (eq-eqb j (suc i) (omega arith))
+follows_yes m i j e = ap (λ (t : Bool). t || eqb j 0 && eqb (suc i) m) (eq-eqb j (suc i) (omega arith))
 
 follows-not : (m i j : ℕ) → i < j → (i + 1 ≡ j → ⊥) → follows m i j ≡ false
 unfolding follows
@@ -27,21 +27,21 @@ unfolding follows
 follows-back m i j h = ap₂ (λ (t : Bool) (n : ℕ). t || eqb i 0 && eqb n m) (ne_eqb i (suc j) (λ e. omega arith)) (sym (add-one j))
 
 abbrev pick : Bool → Bool → Segment → Segment → Bool
-pick s t e f = elim s [ true ↦ shareMore e f | false ↦ elim t [ true ↦ shareMore f e | false ↦ share e f ] ]
+pick s t e f = elim s [ true ↦ share_more_of e f | false ↦ elim t [ true ↦ share_more_of f e | false ↦ share e f ] ]
 
 module _ (m i j : ℕ) (e f : Segment) where
   picked : forbidden m (i, e) (j, f) ≡ pick (follows m i j) (follows m j i) e f
   unfolding forbidden
   picked = refl
 
-  pub clash-next : i + 1 ≡ j → shareMore e f ≡ forbidden m (i, e) (j, f)
-  clash-next z = sym (picked ∙ ap (λ (s : Bool). pick s (follows m j i) e f) (follows-yes m i j z))
+  pub clash_next_lem : i + 1 ≡ j → share_more_of e f ≡ forbidden m (i, e) (j, f)
+  clash_next_lem z = sym (picked ∙ ap (λ (s : Bool). pick s (follows m j i) e f) (follows_yes m i j z))
 
   module _ (h : i < j) (z : i + 1 ≡ j → ⊥) where
     rest : {t : Bool} → (eqb i 0 && eqb (j + 1) m) ≡ t → pick false t e f ≡ forbidden m (i, e) (j, f)
     rest y = sym (picked ∙ ap₂ (λ (s t : Bool). pick s t e f) (follows-not m i j h z) (follows-back m i j h ∙ y))
 
-    pub clash-last : (eqb i 0 && eqb (j + 1) m) ≡ true → shareMore f e ≡ forbidden m (i, e) (j, f)
+    pub clash-last : (eqb i 0 && eqb (j + 1) m) ≡ true → share_more_of f e ≡ forbidden m (i, e) (j, f)
     clash-last y = rest y
 
     pub clash-other : (eqb i 0 && eqb (j + 1) m) ≡ false → share e f ≡ forbidden m (i, e) (j, f)
@@ -51,8 +51,8 @@ module _ (m i j : ℕ) (e f : Segment) where
 pub ends_at : {us vs : List ℤ} {m : ℕ} → Spread us vs m → (i : ℕ) → i < m → Ends (edge_at us vs i)
 ends_at s i h =
     record {
-      from = record { on-u = s.close-u i (omega arith); on-v = s.close-v i (omega arith) };
-      to = record { on-u = s.close-u (i + 1) (omega arith); on-v = s.close-v (i + 1) (omega arith) };
+      from = record { on_u = s.close_u i (omega arith); on-v = s.close_v i (omega arith) };
+      to = record { on_u = s.close_u (i + 1) (omega arith); on-v = s.close_v (i + 1) (omega arith) };
     }
 
 pub ends_same : {e f : Segment} → e ≡ f → Ends f → Ends e
@@ -69,8 +69,8 @@ module _ (us vs : List ℤ) (m : ℕ) where
   edges-length : length edges ≡ m
   edges-length = numbered-length (tab (edge_at us vs) m) ∙ tab-length (edge_at us vs) m
 
-  edge-is : (j : ℕ) → j < m → get_or edges j nowhere ≡ (j, edge_at us vs j)
-  edge-is j h =
+  edge_is : (j : ℕ) → j < m → get_or edges j nowhere ≡ (j, edge_at us vs j)
+  edge_is j h =
       numbered-at (tab (edge_at us vs) m) j nowhere nowhere.1 (subst (λ (n : ℕ). j < n) (sym (tab-length (edge_at us vs) m)) h)
       ∙ ap (λ (e : Segment). (j, e)) (tab-at (edge_at us vs) m j nowhere.1 h)
 
@@ -80,10 +80,10 @@ module _ (us vs : List ℤ) (m : ℕ) where
   -- ---- one row: an edge and a later one
   module _ (t : ℕ × Segment → Bool) (j : ℕ) where
     pub row_here : j < m → t (j, edge_at us vs j) ≡ true → any t (drop j edges) ≡ true
-    row_here h e = any_here t edges j nowhere (inside j h) (ap t (edge-is j h) ∙ e)
+    row_here h e = any_here t edges j nowhere (inside j h) (ap t (edge_is j h) ∙ e)
 
     pub row_next : j < m → t (j, edge_at us vs j) ≡ false → any t (drop (j + 1) edges) ≡ any t (drop j edges)
-    row_next h e = sym (any_next t edges j nowhere (inside j h) (ap t (edge-is j h) ∙ e))
+    row_next h e = sym (any_next t edges j nowhere (inside j h) (ap t (edge_is j h) ∙ e))
 
     pub row_back : j < m → any t (drop (j + 1) edges) ≡ true → any t (drop j edges) ≡ true
     row_back h e = go (t (j, edge_at us vs j)) refl
@@ -93,7 +93,7 @@ module _ (us vs : List ℤ) (m : ℕ) where
         go false z = sym (row_next h z) ∙ e
 
     pub row-end : j ≡ m → any t (drop j edges) ≡ false
-    row-end e = any-end t edges j (e ∙ sym edges-length)
+    row-end e = any_end t edges j (e ∙ sym edges-length)
 
   -- edges that do not pass a test tell nothing
   row-some : (t : ℕ × Segment → Bool) (j d : ℕ) → j + d ≤ m → ((k : ℕ) → j ≤ k → k < j + d → t (k, edge_at us vs k) ≡ false) → any t (drop j edges) ≡ any t (drop (j + d) edges)
@@ -126,8 +126,8 @@ module _ (us vs : List ℤ) (m : ℕ) where
   pub clear_none : Clear 0
   clear_none = record { each = λ k h. absurd (omega arith) }
 
-  pub clear-more : {i : ℕ} → Clear i → row_at i ≡ false → Clear (i + 1)
-  clear-more {i} c e = record { each = λ k h. go k h (dec_lt k i) }
+  pub clear_more : {i : ℕ} → Clear i → row_at i ≡ false → Clear (i + 1)
+  clear_more {i} c e = record { each = λ k h. go k h (dec_lt k i) }
     where
       go : (k : ℕ) → k < i + 1 → Dec (k < i) → row_at k ≡ false
       go k h (yes p) = c.each k p
@@ -145,10 +145,10 @@ module _ (us vs : List ℤ) (m : ℕ) where
     clear : (k : ℕ) → k < i → row es k ≡ false
     clear k l = row_is k (omega arith) ∙ c.each k l
 
-    pub clear-found : i < m → row_at i ≡ true → i ≡ crossedAt (tab (edge_at us vs) m)
+    pub clear-found : i < m → row_at i ≡ true → i ≡ crossed_at (tab (edge_at us vs) m)
     unfolding es
     clear-found l e = row_first es i clear (omega (arith, tab-length (edge_at us vs) m)) (row_is i l ∙ e)
 
-    pub clear-end : i ≡ m → i ≡ crossedAt (tab (edge_at us vs) m)
+    pub clear-end : i ≡ m → i ≡ crossed_at (tab (edge_at us vs) m)
     unfolding es
     clear-end z = row-none es i clear (z ∙ sym (tab-length (edge_at us vs) m))

@@ -5,7 +5,7 @@ use Rattle.lines.specs.Lines.{ended}
 use Rattle.frame.specs.Frame.{Frame}
 use Rattle.taken.specs.held.Chains.{Chained}
 use Rattle.building.specs.Tables.{Tables, Building}
-use Rattle.building.specs.held.Holds.{Arrays, heldTables, heldBuilding, Loaded, Sizes, Kept}
+use Rattle.building.specs.held.Holds.{Arrays, held_tables, held_building, Loaded, Sizes, Kept}
 use Rattle.service.specs.Service.{State, nothing, loading, holding, Outcome, outcome, refusal}
 use Rattle.modes.specs.declared.Mode.{Mode}
 use Rattle.modes.specs.declared.Mode.TheVariants.{Nothing, Loading, Holding}
@@ -19,7 +19,7 @@ state_of Holding t b = holding b
 
 -- the state that the arrays and the scalars hold
 unfoldable pub service : Arrays → Desk → State
-service a d = state_of d.mode (heldTables a.points a.entries a.starts a.firsts d.held) (heldBuilding a d.held)
+service a d = state_of d.mode (held_tables a.points a.entries a.starts a.firsts d.held) (held_building a d.held)
 
 -- what always holds of them; findings, parts and edges are kept while a building is held, and while a load runs the edges' room holds the
 -- points by their places, of which there are none before the first load

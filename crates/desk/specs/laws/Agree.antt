@@ -4,7 +4,7 @@ use Rattle.std.specs.Prelude.{ℕ, ◌≡◌, Bool, List}
 use Rattle.whole.specs.laws.Agree.{agree}
 use Rattle.building.specs.held.Holds.{Arrays}
 use Rattle.service.specs.declared.Refusal.{Refusal}
-use Rattle.service.specs.Service.{Outcome, refused, isAccepted}
+use Rattle.service.specs.Service.{Outcome, refused, is_accepted_of}
 use Rattle.desk.specs.declared.Desk.{Desk}
 use Rattle.desk.specs.held.Holds.{service, Did}
 
@@ -13,13 +13,13 @@ abbrev pub Same : List ℕ → List ℕ → Arrays → Arrays → Desk → Desk 
 Same room₁ room₂ a₁ a₂ d₁ d₂ = (room₁ ≡ room₂) × (d₁.at ≡ d₂.at) × (service a₁ d₁ ≡ service a₂ d₂)
 
 -- two results of one outcome: the whole room, the place of the next answer, and what is held
-pub did-agree : {o : Outcome} {room room₁ room₂ : List ℕ} {at : ℕ} {a₁ a₂ : Arrays} {d₁ d₂ : Desk} → Did o room at a₁ room₁ d₁ → Did o room at a₂ room₂ d₂
+pub did_agree : {o : Outcome} {room room₁ room₂ : List ℕ} {at : ℕ} {a₁ a₂ : Arrays} {d₁ d₂ : Desk} → Did o room at a₁ room₁ d₁ → Did o room at a₂ room₂ d₂
     → (room₁ ≡ room₂) × (d₁.at ≡ d₂.at) × (service a₁ d₁ ≡ service a₂ d₂)
-did-agree p q = (agree p.wrote q.wrote, agree p.past q.past, agree p.next q.next)
+did_agree p q = (agree p.wrote q.wrote, agree p.past q.past, agree p.next q.next)
 
-pub is-accepted-agrees : (r : Refusal) (b₁ b₂ : Bool) → b₁ ≡ isAccepted r → b₂ ≡ isAccepted r → b₁ ≡ b₂
-is-accepted-agrees r b₁ b₂ = agree
+pub is_accepted_agrees : (r : Refusal) (b₁ b₂ : Bool) → b₁ ≡ is_accepted_of r → b₂ ≡ is_accepted_of r → b₁ ≡ b₂
+is_accepted_agrees r b₁ b₂ = agree
 
-pub refuse-agrees : (r : Refusal) (a : Arrays) (d : Desk) (room room₁ room₂ : List ℕ) (d₁ d₂ : Desk) → Did (refused r (service a d)) room d.at a room₁ d₁
+pub refuse_agrees : (r : Refusal) (a : Arrays) (d : Desk) (room room₁ room₂ : List ℕ) (d₁ d₂ : Desk) → Did (refused r (service a d)) room d.at a room₁ d₁
     → Did (refused r (service a d)) room d.at a room₂ d₂ → (room₁ ≡ room₂) × (d₁.at ≡ d₂.at) × (service a d₁ ≡ service a d₂)
-refuse-agrees r a d room room₁ room₂ d₁ d₂ = did-agree
+refuse_agrees r a d room room₁ room₂ d₁ d₂ = did_agree

@@ -12,10 +12,10 @@ use Rattle.answer.specs.Answer.{plain}
 use Rattle.answer.specs.held.Wrote.{Wrote}
 use Rattle.building.specs.declared.Scalars.{Scalars}
 use Rattle.building.specs.Tables.{Tables, Building}
-use Rattle.building.specs.held.Holds.{Arrays, heldTables, heldBuilding, Sizes, Held}
+use Rattle.building.specs.held.Holds.{Arrays, held_tables, held_building, Sizes, Held}
 use Rattle.service.specs.declared.Refusal.{Refusal}
-use Rattle.service.specs.Service.{State, holding, isLoading, isHolding, refusal, refusalNumber, takes, reportOf, answerTo, Outcome, outcome, refused, isAccepted}
-use Rattle.service.specs.laws.Refusals.{refused-outcome, accepted-outcome}
+use Rattle.service.specs.Service.{State, holding, is_loading_of, is_holding_of, refusal, refusal_number_of, takes, report_of, answer_to, Outcome, outcome, refused, is_accepted_of}
+use Rattle.service.specs.laws.Refusals.{refused-outcome, accepted_outcome}
 use Rattle.service.specs.laws.Fresh.{Passed, passed}
 use Rattle.modes.specs.declared.Mode.{Mode}
 use Rattle.modes.specs.declared.Mode.TheVariants.{Nothing, Loading, Holding}
@@ -28,45 +28,45 @@ use Rattle.building.specs.held.Holds as B
 
 module _ (a : Arrays) (d : Desk) (v : Valid a d) where
   -- the same is held, whatever the place of the next answer
-  pub valid-at : (at : ℕ) → Valid a (record { mode = d.mode; held = d.held; at = at })
-  valid-at at = record { loaded = v.loaded; sizes = v.sizes; kept = v.kept; chained = v.chained; fresh = v.fresh }
+  pub valid_at : (at : ℕ) → Valid a (record { mode = d.mode; held = d.held; at = at })
+  valid_at at = record { loaded = v.loaded; sizes = v.sizes; kept = v.kept; chained = v.chained; fresh = v.fresh }
 
-  pub did-digits : (r : Refusal) (n : ℕ) → n ≡ refusalNumber r → (room room' : List ℕ) (at : ℕ) → Wrote (ended (plain n)) room d.at room' at
+  pub did_digits : (r : Refusal) (n : ℕ) → n ≡ refusal_number_of r → (room room' : List ℕ) (at : ℕ) → Wrote (ended (plain n)) room d.at room' at
       → Did (refused r (service a d)) room d.at a room' (record { mode = d.mode; held = d.held; at = at })
   unfolding service
-  did-digits r n e room room' at w =
-      let k : ended (plain n) ≡ ended (plain (refusalNumber r)) = ap (λ (m : ℕ). ended (plain m)) e in
-      record { valid = valid-at at; next = refl; wrote = w.bytes ∙ ap (sets room d.at) k; past = w.past ∙ ap (λ (l : List ℕ). d.at + length l) k }
+  did_digits r n e room room' at w =
+      let k : ended (plain n) ≡ ended (plain (refusal_number_of r)) = ap (λ (m : ℕ). ended (plain m)) e in
+      record { valid = valid_at at; next = refl; wrote = w.bytes ∙ ap (sets room d.at) k; past = w.past ∙ ap (λ (l : List ℕ). d.at + length l) k }
 
   -- a frame that is refused so
-  pub did-refused : (f : Frame) (r : Refusal) (room room' : List ℕ) (d' : Desk) → r ≡ refusal (service a d) f → isAccepted r ≡ false
+  pub did_refused : (f : Frame) (r : Refusal) (room room' : List ℕ) (d' : Desk) → r ≡ refusal (service a d) f → is_accepted_of r ≡ false
       → Did (refused r (service a d)) room d.at a room' d' → Did (does (service a d) f) room d.at a room' d'
-  did-refused f r room room' d' e n h =
+  did_refused f r room room' d' e n h =
       subst (λ (o : Outcome). Did o room d.at a room' d') (sym (refused-outcome r (service a d) f n) ∙ ap (λ (q : Refusal). outcome q (service a d) f) e) h
 
 -- ---- accepted
 
 -- what is held and written after an accepted frame
-pub did-accepted : (st : State) (f : Frame) (r : Refusal) (room room' : List ℕ) (at : ℕ) (a' : Arrays) (d' : Desk) → r ≡ refusal st f → isAccepted r ≡ true
-    → Valid a' d' → service a' d' ≡ takes st f → Wrote (ended (answerTo f (takes st f))) room at room' d'.at → Did (does st f) room at a' room' d'
-did-accepted st f r room room' at a' d' e t v n w =
-    subst (λ (o : Outcome). Did o room at a' room' d') (sym (accepted-outcome r st f t) ∙ ap (λ (q : Refusal). outcome q st f) e)
+pub did_accepted : (st : State) (f : Frame) (r : Refusal) (room room' : List ℕ) (at : ℕ) (a' : Arrays) (d' : Desk) → r ≡ refusal st f → is_accepted_of r ≡ true
+    → Valid a' d' → service a' d' ≡ takes st f → Wrote (ended (answer_to f (takes st f))) room at room' d'.at → Did (does st f) room at a' room' d'
+did_accepted st f r room room' at a' d' e t v n w =
+    subst (λ (o : Outcome). Did o room at a' room' d') (sym (accepted_outcome r st f t) ∙ ap (λ (q : Refusal). outcome q st f) e)
     (record { valid = v; next = n; wrote = w.bytes; past = w.past })
 
-pub passed-row : (st : State) (f : Frame) (r : Refusal) → r ≡ refusal st f → isAccepted r ≡ true → Passed st f
-passed-row st f r e t = passed st f (ap isAccepted (sym e) ∙ t)
+pub passed_row : (st : State) (f : Frame) (r : Refusal) → r ≡ refusal st f → is_accepted_of r ≡ true → Passed st f
+passed_row st f r e t = passed st f (ap is_accepted_of (sym e) ∙ t)
 
-pub loading-mode : (m : Mode) (t : Tables) (b : Building) → not (isLoading (state_of m t b)) ≡ false → loads m ≡ true
-unfolding state_of isLoading
-loading-mode Nothing t b e = absurd (true≢false e)
-loading-mode Loading t b e = refl
-loading-mode Holding t b e = absurd (true≢false e)
+pub loading_mode : (m : Mode) (t : Tables) (b : Building) → not (is_loading_of (state_of m t b)) ≡ false → loads m ≡ true
+unfolding state_of is_loading_of
+loading_mode Nothing t b e = absurd (true≢false e)
+loading_mode Loading t b e = refl
+loading_mode Holding t b e = absurd (true≢false e)
 
-pub holding-mode : (m : Mode) (t : Tables) (b : Building) → not (isHolding (state_of m t b)) ≡ false → holds m ≡ true
-unfolding state_of isHolding
-holding-mode Nothing t b e = absurd (true≢false e)
-holding-mode Loading t b e = absurd (true≢false e)
-holding-mode Holding t b e = refl
+pub holding_mode : (m : Mode) (t : Tables) (b : Building) → not (is_holding_of (state_of m t b)) ≡ false → holds m ≡ true
+unfolding state_of is_holding_of
+holding_mode Nothing t b e = absurd (true≢false e)
+holding_mode Loading t b e = absurd (true≢false e)
+holding_mode Holding t b e = refl
 
 pub not-held : Loading ≡ Holding → ⊥
 not-held e = false≢true (ap holds e)
@@ -74,15 +74,15 @@ not-held e = false≢true (ap holds e)
 pub not-loads : Holding ≡ Loading → ⊥
 not-loads e = false≢true (ap loads e)
 
-pub loading-not-nothing : Loading ≡ Nothing → ⊥
-loading-not-nothing e = true≢false (ap loads e)
+pub loading_not_nothing : Loading ≡ Nothing → ⊥
+loading_not_nothing e = true≢false (ap loads e)
 
-pub holding-not-nothing : Holding ≡ Nothing → ⊥
-holding-not-nothing e = true≢false (ap holds e)
+pub holding_not_nothing : Holding ≡ Nothing → ⊥
+holding_not_nothing e = true≢false (ap holds e)
 
 -- what a held building asks of the arrays
-pub valid-held : (a : Arrays) (d : Desk) → Valid a d → holds d.mode ≡ true → Held a d.held
-valid-held a d v h = record { loaded = v.loaded; stamped = v.sizes.stamps; kept = v.kept (is-holding d.mode h) }
+pub valid_held : (a : Arrays) (d : Desk) → Valid a d → holds d.mode ≡ true → Held a d.held
+valid_held a d v h = record { loaded = v.loaded; stamped = v.sizes.stamps; kept = v.kept (is-holding d.mode h) }
   where
     is-holding : (m : Mode) → holds m ≡ true → m ≡ Holding
     is-holding Nothing e = absurd (false≢true e)
@@ -91,18 +91,18 @@ valid-held a d v h = record { loaded = v.loaded; stamped = v.sizes.stamps; kept 
 
 -- ---- a report
 
-held-sizes : (a : Arrays) (s : Scalars) → Held a s → Sizes a
-held-sizes a s h = record { stamps = h.stamped; findings = h.kept.found.size; parts = h.kept.summed.size; table = h.kept.table-size; turned = h.kept.turned-size }
+held_sizes : (a : Arrays) (s : Scalars) → Held a s → Sizes a
+held_sizes a s h = record { stamps = h.stamped; findings = h.kept.found.size; parts = h.kept.summed.size; table = h.kept.table-size; turned = h.kept.turned-size }
 
-module _ (a : Arrays) (d : Desk) (f : Frame) (r : Refusal) (row : r ≡ refusal (service a d) f) (t : isAccepted r ≡ true) where
-  pub did-report : (b : Building) → takes (service a d) f ≡ holding b → answerTo f (holding b) ≡ reportOf b.tables
+module _ (a : Arrays) (d : Desk) (f : Frame) (r : Refusal) (row : r ≡ refusal (service a d) f) (t : is_accepted_of r ≡ true) where
+  pub did_report : (b : Building) → takes (service a d) f ≡ holding b → answer_to f (holding b) ≡ report_of b.tables
       → (a' : Arrays) (s : Scalars) → B.Did b a' s
-      → (room room' : List ℕ) (at : ℕ) → Wrote (ended (reportOf (heldTables a'.points a'.entries a'.starts a'.firsts s))) room d.at room' at
+      → (room room' : List ℕ) (at : ℕ) → Wrote (ended (report_of (held_tables a'.points a'.entries a'.starts a'.firsts s))) room d.at room' at
       → Did (does (service a d) f) room d.at a' room' (record { mode = Holding; held = s; at = at })
-  unfolding service state_of heldBuilding
-  did-report b e n a' s h room room' at w =
-      let same : heldTables a'.points a'.entries a'.starts a'.firsts s ≡ b.tables = ap (λ (q : Building). q.tables) h.is in
-      did-accepted (service a d) f r room room' d.at a' (record { mode = Holding; held = s; at = at }) row t
-      (record { loaded = h.held.loaded; sizes = held-sizes a' s h.held; kept = λ _. h.held.kept; chained = λ q. absurd (not-loads q); fresh = λ q. absurd (holding-not-nothing q) })
+  unfolding service state_of held_building
+  did_report b e n a' s h room room' at w =
+      let same : held_tables a'.points a'.entries a'.starts a'.firsts s ≡ b.tables = ap (λ (q : Building). q.tables) h.is in
+      did_accepted (service a d) f r room room' d.at a' (record { mode = Holding; held = s; at = at }) row t
+      (record { loaded = h.held.loaded; sizes = held_sizes a' s h.held; kept = λ _. h.held.kept; chained = λ q. absurd (not-loads q); fresh = λ q. absurd (holding_not_nothing q) })
       (ap holding h.is ∙ sym e)
-      (subst (λ (l : List ℕ). Wrote (ended l) room d.at room' at) (ap reportOf same ∙ sym n ∙ ap (answerTo f) (sym e)) w)
+      (subst (λ (l : List ℕ). Wrote (ended l) room d.at room' at) (ap report_of same ∙ sym n ∙ ap (answer_to f) (sym e)) w)

@@ -2,8 +2,8 @@
 use Rattle.std.specs.Prelude.{ℕ, ◌≡◌, List, take}
 use Rattle.whole.specs.laws.Agree.{agree}
 use Rattle.shell.specs.declared.Shape.{Shape}
-use Rattle.shell.specs.held.Kept.{nowOf, alikeIn}
+use Rattle.shell.specs.held.Kept.{now_of, alike_in}
 
 -- `shape_now`: the shape
-pub shape-now-agree : (table : List ℕ) (count : ℕ) (turned : List ℕ) (fixed r r' : Shape) → r ≡ nowOf fixed (alikeIn turned (take count table)) → r' ≡ nowOf fixed (alikeIn turned (take count table)) → r ≡ r'
-shape-now-agree table count turned fixed r r' a b = agree a b
+pub shape_now_agree : (table : List ℕ) (count : ℕ) (turned : List ℕ) (fixed r r' : Shape) → r ≡ now_of fixed (alike_in turned (take count table)) → r' ≡ now_of fixed (alike_in turned (take count table)) → r ≡ r'
+shape_now_agree table count turned fixed r r' a b = agree a b

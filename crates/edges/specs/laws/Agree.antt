@@ -5,8 +5,8 @@ use Rattle.whole.specs.laws.Agree.{agree}
 use Rattle.edges.specs.held.Steps.{Filled}
 
 -- `fill`: the number of words and the array
-pub fill-agree : (ws w₀ w w' : List ℕ) (r r' : ℕ) → Filled ws w₀ w r → Filled ws w₀ w' r' → (r ≡ r') × (w ≡ w')
-fill-agree ws w₀ w w' r r' a b = (e, sym (take-append-drop r w) ∙ (ap₂ (λ (x y : List ℕ). x ++ y) front rest ∙ take-append-drop r w'))
+pub fill_agree : (ws w₀ w w' : List ℕ) (r r' : ℕ) → Filled ws w₀ w r → Filled ws w₀ w' r' → (r ≡ r') × (w ≡ w')
+fill_agree ws w₀ w w' r r' a b = (e, sym (take-append-drop r w) ∙ (ap₂ (λ (x y : List ℕ). x ++ y) front rest ∙ take-append-drop r w'))
   where
     e : r ≡ r'
     e = agree a.long b.long

@@ -3,17 +3,17 @@ use Rattle.std.specs.Prelude.{ℕ, ◌+◌, ◌*◌, ◌≤◌, ◌<◌, min, ma
 use Rattle.std.proofs.Common.{arith, ap, ap₂, ◌∙◌}
 use Rattle.whole.specs.Lists.{steps, tally}
 use Rattle.whole.specs.laws.Reverse.{back, steps-reverse, map_reverse_aux}
-use Rattle.edges.specs.Edges.{way, edge, smaller, larger, edgesOf, count}
+use Rattle.edges.specs.Edges.{way, edge, smaller, larger, edges_of, count}
 use Rattle.edges.specs.laws.Tallies.{tally-reverse}
 
 -- "the one with least a, then least b" is the one with the least number
-pub order-of-edges : (a b c d : ℕ) → b < 65536 → d < 65536 → way a b ≤ way c d → (a ≡ c → b ≤ d) × (a ≤ c)
+pub order_of-edges : (a b c d : ℕ) → b < 65536 → d < 65536 → way a b ≤ way c d → (a ≡ c → b ≤ d) × (a ≤ c)
 unfolding way
-order-of-edges a b c d h g e = (λ z. omega arith, omega arith)
+order_of-edges a b c d h g e = (λ z. omega arith, omega arith)
 
-pub edges-of-order : (a b c d : ℕ) → b < 65536 → d < 65536 → a ≤ c → (a ≡ c → b ≤ d) → way a b ≤ way c d
+pub edges_of_order : (a b c d : ℕ) → b < 65536 → d < 65536 → a ≤ c → (a ≡ c → b ≤ d) → way a b ≤ way c d
 unfolding way
-edges-of-order a b c d h g e f = go (dec_eq a c)
+edges_of_order a b c d h g e f = go (dec_eq a c)
   where
     dec_eq : (a c : ℕ) → Dec (a ≡ c)
     dec_eq = native.Mathlib.Decide.ℕ_discrete
@@ -42,13 +42,13 @@ map_back : (l : List (ℕ × ℕ)) → map (λ s. edge s.0 s.1) (map back l) ≡
 map_back [] = refl
 map_back (s ∷ l) = ap₂ (λ (e : ℕ) (m : List ℕ). e ∷ m) (edge-sym s.1 s.0) (map_back l)
 
-pub edges-turned : (ring : List ℕ) → edgesOf (reverse ring) ≡ reverse (edgesOf ring)
-unfolding edgesOf
+pub edges-turned : (ring : List ℕ) → edges_of (reverse ring) ≡ reverse (edges_of ring)
+unfolding edges_of
 edges-turned ring =
     ap (map (λ s. edge s.0 s.1)) (steps-reverse ring)
     ∙ map_reverse_aux (λ s. edge s.0 s.1) (map back (steps ring)) []
     ∙ ap reverse (map_back (steps ring))
 
-pub count-turned : (e : ℕ) (ring : List ℕ) → count e (edgesOf (reverse ring)) ≡ count e (edgesOf ring)
+pub count-turned : (e : ℕ) (ring : List ℕ) → count e (edges_of (reverse ring)) ≡ count e (edges_of ring)
 unfolding count
-count-turned e ring = ap (tally (eqb e)) (edges-turned ring) ∙ tally-reverse (eqb e) (edgesOf ring)
+count-turned e ring = ap (tally (eqb e)) (edges-turned ring) ∙ tally-reverse (eqb e) (edges_of ring)

@@ -15,74 +15,74 @@ unfoldable pub one : {A : Type 0} → (A → Bool) → A → ℕ
 one t x = elim (t x) [ true ↦ 1 | false ↦ 0 ]
 
 module _ {A : Type 0} where
-  pub tally-nil : (t : A → Bool) → tally t [] ≡ 0
+  pub tally_nil : (t : A → Bool) → tally t [] ≡ 0
   unfolding tally
-  tally-nil t = refl
+  tally_nil t = refl
 
-  pub tally-cons : (t : A → Bool) (x : A) (l : List A) → tally t (x ∷ l) ≡ one t x + tally t l
+  pub tally_cons : (t : A → Bool) (x : A) (l : List A) → tally t (x ∷ l) ≡ one t x + tally t l
   unfolding tally one
-  tally-cons t x l = go (t x)
+  tally_cons t x l = go (t x)
     where
       go : (b : Bool) → elim b as (λ _. ℕ) [ true ↦ suc (tally t l) | false ↦ tally t l ] ≡ elim b as (λ _. ℕ) [ true ↦ 1 | false ↦ 0 ] + tally t l
       go true = omega arith
       go false = omega arith
 
-  pub one-yes : (t : A → Bool) (x : A) → t x ≡ true → one t x ≡ 1
+  pub one_yes : (t : A → Bool) (x : A) → t x ≡ true → one t x ≡ 1
   unfolding one
-  one-yes t x e = rw (e, one)
+  one_yes t x e = rw (e, one)
 
-  pub one-no : (t : A → Bool) (x : A) → t x ≡ false → one t x ≡ 0
+  pub one_no : (t : A → Bool) (x : A) → t x ≡ false → one t x ≡ 0
   unfolding one
-  one-no t x e = rw (e, one)
+  one_no t x e = rw (e, one)
 
-  one-le : (t : A → Bool) (x : A) → one t x ≤ 1
+  one_le : (t : A → Bool) (x : A) → one t x ≤ 1
   unfolding one
-  one-le t x = go (t x)
+  one_le t x = go (t x)
     where
       go : (b : Bool) → elim b as (λ _. ℕ) [ true ↦ 1 | false ↦ 0 ] ≤ 1
       go true = le_refl 1
       go false = zero-le
 
-  pub tally-le : (t : A → Bool) (l : List A) → tally t l ≤ length l
-  tally-le t [] = omega (arith, tally-nil t)
-  tally-le t (x ∷ l) = omega (arith, tally-cons t x l, one-le t x, tally-le t l)
+  pub tally_le : (t : A → Bool) (l : List A) → tally t l ≤ length l
+  tally_le t [] = omega (arith, tally_nil t)
+  tally_le t (x ∷ l) = omega (arith, tally_cons t x l, one_le t x, tally_le t l)
 
-  pub tally-append : (t : A → Bool) (a b : List A) → tally t (a ++ b) ≡ tally t a + tally t b
-  tally-append t [] b = omega (arith, tally-nil t)
-  tally-append t (x ∷ a) b = rw (tally-cons t x (a ++ b), tally-cons t x a) (omega (arith, tally-append t a b))
+  pub tally_append : (t : A → Bool) (a b : List A) → tally t (a ++ b) ≡ tally t a + tally t b
+  tally_append t [] b = omega (arith, tally_nil t)
+  tally_append t (x ∷ a) b = rw (tally_cons t x (a ++ b), tally_cons t x a) (omega (arith, tally_append t a b))
 
-  pub tally-reverseAux : (t : A → Bool) (l r : List A) → tally t (reverse_aux l r) ≡ tally t l + tally t r
-  tally-reverseAux t [] r = omega (arith, tally-nil t)
-  tally-reverseAux t (x ∷ l) r = tally-reverseAux t l (x ∷ r) ∙ omega (arith, tally-cons t x l, tally-cons t x r)
+  pub tally-reverse_aux : (t : A → Bool) (l r : List A) → tally t (reverse_aux l r) ≡ tally t l + tally t r
+  tally-reverse_aux t [] r = omega (arith, tally_nil t)
+  tally-reverse_aux t (x ∷ l) r = tally-reverse_aux t l (x ∷ r) ∙ omega (arith, tally_cons t x l, tally_cons t x r)
 
   pub tally-reverse : (t : A → Bool) (l : List A) → tally t (reverse l) ≡ tally t l
-  tally-reverse t l = tally-reverseAux t l [] ∙ omega (arith, tally-nil t)
+  tally-reverse t l = tally-reverse_aux t l [] ∙ omega (arith, tally_nil t)
 
 one_map : {A B : Type 0} (t : B → Bool) (g : A → B) (x : A) → one t (g x) ≡ one (λ y. t (g y)) x
 unfolding one
 one_map t g x = refl
 
 pub tally-map : {A B : Type 0} (t : B → Bool) (g : A → B) (l : List A) → tally t (map g l) ≡ tally (λ x. t (g x)) l
-tally-map t g [] = tally-nil t ∙ sym (tally-nil (λ x. t (g x)))
+tally-map t g [] = tally_nil t ∙ sym (tally_nil (λ x. t (g x)))
 tally-map t g (x ∷ l) =
-    tally-cons t (g x) (map g l) ∙ ap₂ (λ (a b : ℕ). a + b) (one_map t g x) (tally-map t g l) ∙ sym (tally-cons (λ y. t (g y)) x l)
+    tally_cons t (g x) (map g l) ∙ ap₂ (λ (a b : ℕ). a + b) (one_map t g x) (tally-map t g l) ∙ sym (tally_cons (λ y. t (g y)) x l)
 
 -- a number that stands in a list is counted, and one that is counted stands there
-pub in-tally : (t : ℕ → Bool) (x : ℕ) (l : List ℕ) → In x l → t x ≡ true → 1 ≤ tally t l
-in-tally t x [] i e = absurd i
-in-tally t x (y ∷ l) (inl q) e = omega (arith, tally-cons t y l, one-yes t y (ap t (sym q) ∙ e))
-in-tally t x (y ∷ l) (inr i) e = omega (arith, tally-cons t y l, in-tally t x l i e)
+pub in_tally : (t : ℕ → Bool) (x : ℕ) (l : List ℕ) → In x l → t x ≡ true → 1 ≤ tally t l
+in_tally t x [] i e = absurd i
+in_tally t x (y ∷ l) (inl q) e = omega (arith, tally_cons t y l, one_yes t y (ap t (sym q) ∙ e))
+in_tally t x (y ∷ l) (inr i) e = omega (arith, tally_cons t y l, in_tally t x l i e)
 
-pub tally-in : (t : ℕ → Bool) (l : List ℕ) → 1 ≤ tally t l → (x : ℕ) × In x l × (t x ≡ true)
-tally-in t [] h = absurd (bad (tally-nil t))
+pub tally_in : (t : ℕ → Bool) (l : List ℕ) → 1 ≤ tally t l → (x : ℕ) × In x l × (t x ≡ true)
+tally_in t [] h = absurd (bad (tally_nil t))
   where
     bad : tally t [] ≡ 0 → ⊥
     bad e = omega arith
-tally-in t (y ∷ l) h = go (t y) refl (tally-in t l)
+tally_in t (y ∷ l) h = go (t y) refl (tally_in t l)
   where
     go : (b : Bool) → t y ≡ b → (1 ≤ tally t l → (x : ℕ) × In x l × (t x ≡ true)) → (x : ℕ) × In x (y ∷ l) × (t x ≡ true)
     go true e ih = (y, inl refl, e)
-    go false e ih = let r = ih (omega (arith, tally-cons t y l, one-no t y e)) in (r.0, inr r.1, r.2)
+    go false e ih = let r = ih (omega (arith, tally_cons t y l, one_no t y e)) in (r.0, inr r.1, r.2)
 
 -- what stands in a list stands at a place, and the other way round
 pub in_place : (x : ℕ) (l : List ℕ) → In x l → (i : ℕ) × (i < length l) × (get_or l i 0 ≡ x)
@@ -112,5 +112,5 @@ in_either x (y ∷ a) b (inr i) = ⊎_elim (λ (j : In x a). inl (inr j)) (λ (j
 -- lists of which as many pass each test have the same members
 pub same_in : (l m : List ℕ) → ((t : ℕ → Bool) → tally t l ≡ tally t m) → (x : ℕ) → In x l → In x m
 same_in l m h x i =
-    let r = tally-in (eqb x) m (subst (λ (n : ℕ). 1 ≤ n) (h (eqb x)) (in-tally (eqb x) x l i (eq-eqb x x refl))) in
+    let r = tally_in (eqb x) m (subst (λ (n : ℕ). 1 ≤ n) (h (eqb x)) (in_tally (eqb x) x l i (eq-eqb x x refl))) in
     subst (λ (y : ℕ). In y m) (sym (eqb-true x r.0 r.2)) r.1

@@ -1,7 +1,7 @@
 -- `elements::element_a` meets its contract, case by case.
 use mathlib.Core.Path.{sym, ap, ◌∙◌}
 use borrow.Author.Rules.{rules}
-use Rattle.building.specs.Report.{elementA}
+use Rattle.building.specs.Report.{element_a_of}
 use Rattle.elements.proofs.element_a.Statement.{statement}
 use Rattle.elements.proofs.element_a.Tie as tie
 
@@ -21,19 +21,19 @@ enum-told-2 : tie.Need-enum-told-2
 enum-told-2 c = search rules
 
 returns : tie.Need-returns
-unfolding elementA
+unfolding element_a_of
 returns c = search rules
 
 returns-2 : tie.Need-returns-2
-unfolding elementA
+unfolding element_a_of
 returns-2 c = search rules
 
 returns-3 : tie.Need-returns-3
-unfolding elementA
-returns-3 c = c.shape-a.ensures ∙ sym (ap elementA c.before.before.v2.given.1)
+unfolding element_a_of
+returns-3 c = c.shape-a.ensures ∙ sym (ap element_a_of c.before.before.v2.given.1)
 
 returns-4 : tie.Need-returns-4
-unfolding elementA
+unfolding element_a_of
 returns-4 c = search rules
 
 pub element-a-spec : {M : Type 1} → statement M

@@ -1,7 +1,7 @@
 -- `elements::element_b` meets its contract, case by case.
 use mathlib.Core.Path.{sym, ap, ◌∙◌}
 use borrow.Author.Rules.{rules}
-use Rattle.building.specs.Report.{elementB}
+use Rattle.building.specs.Report.{element_b_of}
 use Rattle.elements.proofs.element_b.Statement.{statement}
 use Rattle.elements.proofs.element_b.Tie as tie
 
@@ -27,19 +27,19 @@ enum-told-2 : tie.Need-enum-told-2
 enum-told-2 c = search rules
 
 returns : tie.Need-returns
-unfolding elementB
+unfolding element_b_of
 returns c = search rules
 
 returns-2 : tie.Need-returns-2
-unfolding elementB
-returns-2 c = c.finding-position.ensures ∙ sym (ap elementB c.before.before.v.given.1)
+unfolding element_b_of
+returns-2 c = c.finding-position.ensures ∙ sym (ap element_b_of c.before.before.v.given.1)
 
 returns-3 : tie.Need-returns-3
-unfolding elementB
-returns-3 c = c.shape-b.ensures ∙ sym (ap elementB c.before.before.v2.given.1)
+unfolding element_b_of
+returns-3 c = c.shape-b.ensures ∙ sym (ap element_b_of c.before.before.v2.given.1)
 
 returns-4 : tie.Need-returns-4
-unfolding elementB
+unfolding element_b_of
 returns-4 c = search rules
 
 pub element-b-spec : {M : Type 1} → statement M

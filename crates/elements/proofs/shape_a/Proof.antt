@@ -1,6 +1,6 @@
 -- `elements::shape_a` meets its contract, case by case.
 use borrow.Author.Rules.{rules}
-use Rattle.shell.specs.Shell.{shapeA}
+use Rattle.shell.specs.Shell.{shape_a_of}
 use Rattle.elements.proofs.shape_a.Statement.{statement}
 use Rattle.elements.proofs.shape_a.Tie as tie
 
@@ -26,31 +26,31 @@ enum-known-s-6 : tie.Need-enum-known-s-6
 enum-known-s-6 c = search rules
 
 returns : tie.Need-returns
-unfolding shapeA
+unfolding shape_a_of
 returns c = search rules
 
 returns-2 : tie.Need-returns-2
-unfolding shapeA
+unfolding shape_a_of
 returns-2 c = search rules
 
 returns-3 : tie.Need-returns-3
-unfolding shapeA
+unfolding shape_a_of
 returns-3 c = search rules
 
 returns-4 : tie.Need-returns-4
-unfolding shapeA
+unfolding shape_a_of
 returns-4 c = search rules
 
 returns-5 : tie.Need-returns-5
-unfolding shapeA
+unfolding shape_a_of
 returns-5 c = search rules
 
 returns-6 : tie.Need-returns-6
-unfolding shapeA
+unfolding shape_a_of
 returns-6 c = search rules
 
 returns-7 : tie.Need-returns-7
-unfolding shapeA
+unfolding shape_a_of
 returns-7 c = search rules
 
 pub shape-a-spec : {M : Type 1} → statement M

@@ -1,6 +1,6 @@
 -- `elements::shape_b` meets its contract, case by case.
 use borrow.Author.Rules.{rules}
-use Rattle.shell.specs.Shell.{shapeB}
+use Rattle.shell.specs.Shell.{shape_b_of}
 use Rattle.elements.proofs.shape_b.Statement.{statement}
 use Rattle.elements.proofs.shape_b.Tie as tie
 
@@ -26,31 +26,31 @@ enum-told-4 : tie.Need-enum-told-4
 enum-told-4 c = search rules
 
 returns : tie.Need-returns
-unfolding shapeB
+unfolding shape_b_of
 returns c = search rules
 
 returns-2 : tie.Need-returns-2
-unfolding shapeB
+unfolding shape_b_of
 returns-2 c = search rules
 
 returns-3 : tie.Need-returns-3
-unfolding shapeB
+unfolding shape_b_of
 returns-3 c = search rules
 
 returns-4 : tie.Need-returns-4
-unfolding shapeB
+unfolding shape_b_of
 returns-4 c = search rules
 
 returns-5 : tie.Need-returns-5
-unfolding shapeB
+unfolding shape_b_of
 returns-5 c = search rules
 
 returns-6 : tie.Need-returns-6
-unfolding shapeB
+unfolding shape_b_of
 returns-6 c = search rules
 
 returns-7 : tie.Need-returns-7
-unfolding shapeB
+unfolding shape_b_of
 returns-7 c = search rules
 
 pub shape-b-spec : {M : Type 1} → statement M

@@ -1,8 +1,8 @@
 -- `ended::end_load` meets its contract.
 use Rattle.building.specs.held.Holds.{Arrays, arrays}
-use Rattle.ended.specs.laws.Dids.{did-end}
-use Rattle.desk.specs.laws.Dids.{did-refused}
-use Rattle.frame.specs.Frame.{end-of-load}
+use Rattle.ended.specs.laws.Dids.{did_end}
+use Rattle.desk.specs.laws.Dids.{did_refused}
+use Rattle.frame.specs.Frame.{end_of_load}
 use mathlib.Core.Path.{sym, ◌∙◌}
 use borrow.Author.Rules.{rules}
 use Rattle.ended.proofs.end_load.Statement.{statement}
@@ -30,7 +30,7 @@ returns c =
     let g = c.before.before.before.before.before.before.before.before.before.before.before.before.before.before.before.before.before.before.before.args in
     let v = c.before.before.before.before.before.before.before.before.before.before.before.before.before.before.before.before.before.before.before.requires.1 in
     let w : Arrays = arrays g.points.now g.entries.now g.starts.now g.firsts.now g.stamps.now g.findings.now g.parts.now g.table.now g.turned.now in
-    did-end w g.d v c.before.before.before.before.before.before.before.before.before.before.before.before.before.before.before.before.before.of_end.result (c.before.before.before.before.before.before.before.before.before.before.before.before.before.before.before.before.before.of_end.ensures.is w tt v) (sym c.before.before.before.before.before.before.before.before.before.before.before.before.before.before.before.before.is-accepted.ensures ∙ c.before.before.before.before.before.before.before.before.before.before.before.before.before.before.before.if1.true) _ _ c.before.before.before.before.before.before.before.before.check-all.ensures.0 g.room.now _ _ c.before.before.put-report.ensures
+    did_end w g.d v c.before.before.before.before.before.before.before.before.before.before.before.before.before.before.before.before.before.of_end.result (c.before.before.before.before.before.before.before.before.before.before.before.before.before.before.before.before.before.of_end.ensures.is w tt v) (sym c.before.before.before.before.before.before.before.before.before.before.before.before.before.before.before.before.is-accepted.ensures ∙ c.before.before.before.before.before.before.before.before.before.before.before.before.before.before.before.if1.true) _ _ c.before.before.before.before.before.before.before.before.check-all.ensures.0 g.room.now _ _ c.before.before.put-report.ensures
 
 refuse-requires : tie.Need-refuse-requires
 refuse-requires c κs = search rules
@@ -43,7 +43,7 @@ returns-2 c =
     let g = c.before.before.before.before.before.before.before.before.args in
     let v = c.before.before.before.before.before.before.before.before.requires.1 in
     let w : Arrays = arrays g.points.now g.entries.now g.starts.now g.firsts.now g.stamps.now g.findings.now g.parts.now g.table.now g.turned.now in
-    did-refused w g.d v end-of-load c.before.before.before.before.before.before.of_end.result g.room.now _ _ (c.before.before.before.before.before.before.of_end.ensures.is w tt v) (sym c.before.before.before.before.before.is-accepted.ensures ∙ c.before.before.before.before.if1.false) (c.before.before.refuse.ensures w v)
+    did_refused w g.d v end_of_load c.before.before.before.before.before.before.of_end.result g.room.now _ _ (c.before.before.before.before.before.before.of_end.ensures.is w tt v) (sym c.before.before.before.before.before.is-accepted.ensures ∙ c.before.before.before.before.if1.false) (c.before.before.refuse.ensures w v)
 
 pub end-load-spec : {M : Type 1} → statement M
 end-load-spec =

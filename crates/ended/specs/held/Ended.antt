@@ -1,9 +1,9 @@
 -- The row that can refuse frame 04 (end of load).
-use Rattle.frame.specs.Frame.{end-of-load}
+use Rattle.frame.specs.Frame.{end_of_load}
 use Rattle.service.specs.declared.Refusal.{Refusal}
 use Rattle.desk.specs.declared.Desk.{Desk}
 use Rattle.desk.specs.held.Row.{Row}
 
 -- end of load
 abbrev pub EndRow : Desk → Refusal → Type 0
-EndRow d r = Row d (λ a. Unit {0}) end-of-load (Unit {0}) r
+EndRow d r = Row d (λ a. Unit {0}) end_of_load (Unit {0}) r

@@ -1,11 +1,11 @@
 -- For the public function: any two results that its statement allows agree in the whole room, the place of the next answer, and what is held.
 use Rattle.std.specs.Prelude.{ℕ, List}
-use Rattle.frame.specs.Frame.{end-of-load}
+use Rattle.frame.specs.Frame.{end_of_load}
 use Rattle.building.specs.held.Holds.{Arrays}
 use Rattle.desk.specs.declared.Desk.{Desk}
 use Rattle.desk.specs.held.Holds.{service, Did, does}
-use Rattle.desk.specs.laws.Agree.{Same, did-agree}
+use Rattle.desk.specs.laws.Agree.{Same, did_agree}
 
 module _ (a : Arrays) (d : Desk) (room room₁ room₂ : List ℕ) (a₁ a₂ : Arrays) (d₁ d₂ : Desk) where
-  pub end-load-agrees : Did (does (service a d) end-of-load) room d.at a₁ room₁ d₁ → Did (does (service a d) end-of-load) room d.at a₂ room₂ d₂ → Same room₁ room₂ a₁ a₂ d₁ d₂
-  end-load-agrees = did-agree
+  pub end_load_agrees : Did (does (service a d) end_of_load) room d.at a₁ room₁ d₁ → Did (does (service a d) end_of_load) room d.at a₂ room₂ d₂ → Same room₁ room₂ a₁ a₂ d₁ d₂
+  end_load_agrees = did_agree

@@ -3,11 +3,11 @@ use native.Mathlib.Omega.{arith}
 use mathlib.Core.Path.{sym, ◌∙◌}
 use borrow.Author.Rules.{rules}
 use borrow.Author.Tests.{leb-true}
-use Rattle.space.specs.held.Points.{asPoint}
+use Rattle.space.specs.held.Points.{as_point}
 use Rattle.space.specs.laws.Sizes.{near_same}
 use Rattle.normal.specs.laws.Sizes.{normal-near}
 use Rattle.even.specs.laws.Distance.{settled}
-use Rattle.even.proofs.Ways.{bent-none}
+use Rattle.even.proofs.Ways.{bent_none}
 use Rattle.even.proofs.first_uneven_closed.Statement.{statement}
 use Rattle.even.proofs.first_uneven_closed.Tie as tie
 
@@ -26,8 +26,8 @@ returns : tie.Need-returns
 returns c =
     let s = c.before.before.before.before.before.before in
     let h = s.requires in
-    bent-none s.args.tolerance h.0 h.1.0 c.before.before.before.before.if1.true h.1.1.0.1 h.1.1.1
-    (settled s.args.tolerance (asPoint s.args.n) _ (leb-true _ _ (sym c.before.is-near.ensures ∙ c.if2.true)))
+    bent_none s.args.tolerance h.0 h.1.0 c.before.before.before.before.if1.true h.1.1.0.1 h.1.1.1
+    (settled s.args.tolerance (as_point s.args.n) _ (leb-true _ _ (sym c.before.is-near.ensures ∙ c.if2.true)))
 
 first-uneven-requires : tie.Need-first-uneven-requires
 first-uneven-requires c κs =

@@ -1,7 +1,7 @@
 -- `even::limit_of` meets its contract. Each component times the tolerance is below 2^54.
 use native.Mathlib.Omega.{arith}
 use Rattle.even.specs.laws.Distance.{scaled}
-use Rattle.space.specs.held.Points.{asPoint}
+use Rattle.space.specs.held.Points.{as_point}
 use Rattle.space.specs.laws.Numbers.{size_is}
 use Rattle.even.proofs.Scaled.{scaled_small}
 use borrow.Author.Rules.{rules}
@@ -36,7 +36,7 @@ squares-requires c κs = let s = c.before.before.before.before.before.before in 
 returns : tie.Need-returns
 returns c = let s = c.before.before.before.before.before.before.before in
     let h = s.requires.1 in
-    scaled s.args.tolerance (asPoint s.args.n) (size_is h.x c.before.before.before.size.ensures) (size_is h.y c.before.before.size2.ensures) (size_is h.z c.before.size3.ensures) c.squares.ensures
+    scaled s.args.tolerance (as_point s.args.n) (size_is h.x c.before.before.before.size.ensures) (size_is h.y c.before.before.size2.ensures) (size_is h.z c.before.size3.ensures) c.squares.ensures
 
 pub limit-of-spec : {M : Type 1} → statement M
 limit-of-spec =

@@ -5,14 +5,14 @@ use native.Mathlib.Nat.{le_trans, le_of_eq, lt_of_lt_of_le}
 use native.Mathlib.Omega.{arith}
 use mathlib.Core.Path.{sym}
 use lib.ListN.{length}
-use Rattle.space.specs.held.Points.{asPoint}
+use Rattle.space.specs.held.Points.{as_point}
 use Rattle.even.specs.held.Offs.{Within}
 use Rattle.even.proofs.Ways.{within_none, within_more}
 use Rattle.even.proofs.next_off.Statement.{statement}
 use Rattle.even.proofs.next_off.Tie as tie
 
 abbrev invariant-loop : tie.invariant-loop
-invariant-loop points ring n i reach first j₀ j = Within points (asPoint n) ring reach i j
+invariant-loop points ring n i reach first j₀ j = Within points (as_point n) ring reach i j
 
 abbrev decreases-loop : tie.decreases-loop
 decreases-loop points ring n i reach first j₀ j = length ring - j
@@ -21,7 +21,7 @@ shared-slice-read-first : tie.Need-shared-slice-read-first invariant-loop decrea
 shared-slice-read-first c = search rules
 
 loop-holds : tie.Need-loop-init invariant-loop decreases-loop
-loop-holds c = let s = c.before.before in within_none s.args.points.now (asPoint s.args.n) s.args.ring.now s.args.reach s.args.i s.requires.1.1.0.1
+loop-holds c = let s = c.before.before in within_none s.args.points.now (as_point s.args.n) s.args.ring.now s.args.reach s.args.i s.requires.1.1.0.1
 
 mul-off : tie.Need-overflow-mul-off invariant-loop decreases-loop
 mul-off c = search rules

@@ -2,7 +2,7 @@
 use Prim.Native.Nat.{ℕ, ◌*◌}
 use native.Mathlib.Omega.{arith}
 use mathlib.Core.Path.{ap}
-use Rattle.even.proofs.Scaled.{largest-is, largest-small}
+use Rattle.even.proofs.Scaled.{largest_is, largest_small}
 use borrow.Author.Rules.{rules}
 use Rattle.even.proofs.reach_of.Statement.{statement}
 use Rattle.even.proofs.reach_of.Tie as tie
@@ -24,11 +24,11 @@ larger-requires-2 c κs = search rules
 
 mul-result : tie.Need-overflow-mul-result
 mul-result c = let s = c.before.before.before.before.before.before.before.before in
-    omega (arith, largest-small s.requires.1 c.before.before.before.before.size.ensures c.before.before.before.size2.ensures c.before.before.size3.ensures c.before.larger.ensures c.larger2.ensures s.requires.0)
+    omega (arith, largest_small s.requires.1 c.before.before.before.before.size.ensures c.before.before.before.size2.ensures c.before.before.size3.ensures c.before.larger.ensures c.larger2.ensures s.requires.0)
 
 returns : tie.Need-returns
 returns c = let s = c.before.before.before.before.before.before.before.before in
-    ap (λ (m : ℕ). s.args.tolerance * m) (largest-is s.requires.1 c.before.before.before.before.size.ensures c.before.before.before.size2.ensures c.before.before.size3.ensures c.before.larger.ensures c.larger2.ensures)
+    ap (λ (m : ℕ). s.args.tolerance * m) (largest_is s.requires.1 c.before.before.before.before.size.ensures c.before.before.before.size2.ensures c.before.before.size3.ensures c.before.larger.ensures c.larger2.ensures)
 
 pub reach-of-spec : {M : Type 1} → statement M
 reach-of-spec =

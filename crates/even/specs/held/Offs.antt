@@ -1,7 +1,7 @@
 -- How far the entries of a ring are off its plane, as code holds it.
 use Rattle.std.specs.Prelude.{ℕ, ◌<◌, ◌≤◌, max, List, get_or, length, ℤ, nat_abs}
-use Rattle.space.specs.Space.{Point, relativeTo, dot}
-use Rattle.space.specs.held.Points.{placeAt}
+use Rattle.space.specs.Space.{Point, relative_to, dot}
+use Rattle.space.specs.held.Points.{place_at}
 
 -- the largest of the sizes of a point's numbers
 unfoldable pub largest : Point → ℕ
@@ -13,7 +13,7 @@ pub record Listed (ring : List ℕ) : Type 0 where
 
 -- the size of N·(p - first) for entry i
 abbrev pub off_at : List ℤ → Point → List ℕ → ℕ → ℕ
-off_at flat n ring i = nat_abs (dot n (relativeTo (placeAt flat (get_or ring 0 0)) (placeAt flat (get_or ring i 0))))
+off_at flat n ring i = nat_abs (dot n (relative_to (place_at flat (get_or ring 0 0)) (place_at flat (get_or ring i 0))))
 
 -- entries from i up to j are off by no more than a reach
 pub record Within (flat : List ℤ) (n : Point) (ring : List ℕ) (reach i j : ℕ) : Type 0 where

@@ -3,8 +3,8 @@ use Rattle.std.specs.Prelude.{ℕ, ◌≡◌, List, ℤ}
 use Rattle.whole.specs.laws.Agree.{agree}
 use Rattle.space.specs.declared.Place.{Place}
 use Rattle.space.specs.Space.{places}
-use Rattle.space.specs.held.Points.{points_of, asPoint}
-use Rattle.even.specs.Even.{unevenAt}
+use Rattle.space.specs.held.Points.{points_of, as_point}
+use Rattle.even.specs.Even.{uneven_at}
 
-pub first-uneven-agrees : (flat : List ℤ) (ring : List ℕ) (tolerance : ℕ) (n : Place) (r₁ r₂ : ℕ) → r₁ ≡ unevenAt tolerance (asPoint n) (places (points_of flat) ring) → r₂ ≡ unevenAt tolerance (asPoint n) (places (points_of flat) ring) → r₁ ≡ r₂
-first-uneven-agrees flat ring tolerance n r₁ r₂ = agree
+pub first_uneven_agrees : (flat : List ℤ) (ring : List ℕ) (tolerance : ℕ) (n : Place) (r₁ r₂ : ℕ) → r₁ ≡ uneven_at tolerance (as_point n) (places (points_of flat) ring) → r₂ ≡ uneven_at tolerance (as_point n) (places (points_of flat) ring) → r₁ ≡ r₂
+first_uneven_agrees flat ring tolerance n r₁ r₂ = agree

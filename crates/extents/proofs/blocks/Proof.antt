@@ -2,7 +2,7 @@
 use native.Mathlib.Omega.{arith}
 use Prim.Native.Nat.{◌*◌, ◌+◌, ◌-◌}
 use borrow.Author.Rules.{rules}
-use Rattle.extents.proofs.Covering.{Blocking, blocking-start, blocking-more, blocking-end}
+use Rattle.extents.proofs.Covering.{Blocking, blocking_start, blocking_more, blocking_end}
 use Rattle.extents.proofs.blocks.Statement.{statement}
 use Rattle.extents.proofs.blocks.Tie as tie
 
@@ -13,7 +13,7 @@ abbrev decreases-loop : tie.decreases-loop
 decreases-loop m high room₀ b₀ room b = m + 8 - 8 * b
 
 loop-holds : tie.Need-loop-init invariant-loop decreases-loop
-loop-holds c = blocking-start _ _ _ c.before.requires.1
+loop-holds c = blocking_start _ _ _ c.before.requires.1
 
 mul-loop : tie.Need-overflow-mul-loop invariant-loop decreases-loop
 mul-loop c = omega (arith, c.loop.invariant.upto, c.before.before.requires.0)
@@ -42,13 +42,13 @@ loop-less c = search rules
 loop-again : tie.Need-loop-preserved invariant-loop decreases-loop
 loop-again c =
     let s = c.before.before.before.before.before in
-    blocking-more c.before.before.before.loop.invariant s.requires.0 c.before.before.loop-test.true _ c.furthest.ensures
+    blocking_more c.before.before.before.loop.invariant s.requires.0 c.before.before.loop-test.true _ c.furthest.ensures
 
 same_length : tie.Need-same-length invariant-loop decreases-loop
 same_length c = omega (arith, c.before.loop.invariant.all, c.before.before.before.requires.1)
 
 returns : tie.Need-returns invariant-loop decreases-loop
-returns c = blocking-end c.before.loop.invariant (omega arith)
+returns c = blocking_end c.before.loop.invariant (omega arith)
 
 pub blocks-spec : {M : Type 1} → statement M
 blocks-spec =

@@ -2,7 +2,7 @@
 use native.Mathlib.Omega.{arith}
 use Prim.Native.Nat.{◌-◌}
 use borrow.Author.Rules.{rules}
-use Rattle.extents.proofs.Covering.{Ending, ending-start, ending-more, ending-end}
+use Rattle.extents.proofs.Covering.{Ending, ending_start, ending_more, ending_end}
 use Rattle.extents.proofs.endings.Statement.{statement}
 use Rattle.extents.proofs.endings.Tie as tie
 
@@ -19,7 +19,7 @@ add-n : tie.Need-overflow-add-n invariant-loop decreases-loop
 add-n c = search rules
 
 loop-holds : tie.Need-loop-init invariant-loop decreases-loop
-loop-holds c = ending-start _ _ _ c.before.before.requires.2
+loop-holds c = ending_start _ _ _ c.before.before.requires.2
 
 add-next : tie.Need-overflow-add-next invariant-loop decreases-loop
 add-next c = search rules
@@ -49,13 +49,13 @@ loop-less : tie.Need-loop-smaller invariant-loop decreases-loop
 loop-less c = search rules
 
 loop-again : tie.Need-loop-preserved invariant-loop decreases-loop
-loop-again c = ending-more c.before.before.before.before.loop.invariant (omega arith) _ c.ending.ensures
+loop-again c = ending_more c.before.before.before.before.loop.invariant (omega arith) _ c.ending.ensures
 
 same_length : tie.Need-same-length invariant-loop decreases-loop
 same_length c = let a = c.before.before.before.before.requires.2 in omega (arith, c.before.loop.invariant.all)
 
 returns : tie.Need-returns invariant-loop decreases-loop
-returns c = ending-end c.before.loop.invariant _ (omega arith)
+returns c = ending_end c.before.loop.invariant _ (omega arith)
 
 pub endings-spec : {M : Type 1} → statement M
 endings-spec =

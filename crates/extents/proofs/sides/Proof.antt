@@ -2,8 +2,8 @@
 use native.Mathlib.Omega.{arith}
 use mir.Syntax.{w64}
 use borrow.Author.Rules.{rules}
-use Rattle.whole.specs.laws.Size.{back-small}
-use Rattle.extents.proofs.Covering.{sides-are}
+use Rattle.whole.specs.laws.Size.{back_small}
+use Rattle.extents.proofs.Covering.{sides_are}
 use Rattle.extents.proofs.sides.Statement.{statement}
 use Rattle.extents.proofs.sides.Tie as tie
 
@@ -16,7 +16,7 @@ shared-slice-copy-out-step c = search rules
 step-requires : tie.Need-step-requires
 step-requires c κs =
     let s = c.before.before.before in
-    back-small w64 tt (s.requires.0.close s.args.m (omega arith))
+    back_small w64 tt (s.requires.0.close s.args.m (omega arith))
 
 slice-aggregate-steps : tie.Need-slice-aggregate-steps
 slice-aggregate-steps c = search rules
@@ -55,7 +55,7 @@ returns c =
     let l = h.before.before.before.before.before in
     let p = l.before.before.before.before in
     let s = p.before.before.before.before.before.before in
-    sides-are s.requires.1.0 s.requires.0 p.steps.ensures l.endings.ensures h.endings2.ensures b.blocks2.ensures c.before.before.blocks3.ensures
+    sides_are s.requires.1.0 s.requires.0 p.steps.ensures l.endings.ensures h.endings2.ensures b.blocks2.ensures c.before.before.blocks3.ensures
 
 pub sides-spec : {M : Type 1} → statement M
 sides-spec =

@@ -10,7 +10,7 @@ use mir.Syntax.{w16, w64}
 use mir.Val.{Fits}
 use Rattle.whole.specs.laws.Mach.{whole, asks}
 use Rattle.whole.specs.laws.Solve.{k, v, ◌⊕◌}
-use Rattle.extents.proofs.Covering.{lifted-back, lifted-size, lifted-natural}
+use Rattle.extents.proofs.Covering.{lifted-back, lifted-size, lifted_natural}
 use Rattle.extents.proofs.step.Statement.{statement}
 use Rattle.extents.proofs.step.Tie as tie
 
@@ -18,7 +18,7 @@ add-result : tie.Need-overflow-add-result
 add-result c = asks w64 (whole w64 tt c.requires ∷ []) (v 0 ⊕ k (pos 100000)) tt
 
 cast-result : tie.Need-overflow-cast-result
-cast-result c = subst (λ (x : ℤ). T (non_neg x) × Fits w64 (nat_abs x)) (sym (lifted-back c.requires)) (lifted-natural c.requires, record { fits = omega (arith, lifted-size c.requires) })
+cast-result c = subst (λ (x : ℤ). T (non_neg x) × Fits w64 (nat_abs x)) (sym (lifted-back c.requires)) (lifted_natural c.requires, record { fits = omega (arith, lifted-size c.requires) })
 
 cast-result-2 : tie.Need-overflow-cast-result-2
 cast-result-2 c = subst (λ (x : ℤ). Fits w16 (nat_abs x / 4)) (sym (lifted-back c.requires)) (record { fits = omega (arith, lifted-size c.requires) })

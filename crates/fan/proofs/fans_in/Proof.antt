@@ -11,16 +11,16 @@ use mir.Syntax.{w64}
 use borrow.Author.Tests.{not-true}
 use borrow.Author.Rules.{rules}
 use Rattle.whole.specs.laws.Bools.{or_left, or_right}
-use Rattle.whole.specs.laws.Size.{call-is}
+use Rattle.whole.specs.laws.Size.{call_is}
 use Rattle.plane.specs.Plane.{Spot}
-use Rattle.fan.specs.held.Fan.{spotIn, every, fans}
-use Rattle.fan.specs.laws.Every.{every-next, every-less}
+use Rattle.fan.specs.held.Fan.{spot_in, every, fans}
+use Rattle.fan.specs.laws.Every.{every-next, every_less}
 use Rattle.fan.proofs.fans_in.Statement.{statement}
 use Rattle.fan.proofs.fans_in.Tie as tie
 
 -- where entry i of the ring stands
 abbrev at : List ℤ → List ℕ → ℕ → ℕ → ℕ → Spot
-at flat ring j k i = spotIn flat j k (get_or ring i 0)
+at flat ring j k i = spot_in flat j k (get_or ring i 0)
 
 abbrev invariant-loop : tie.invariant-loop
 invariant-loop points ring j k n first second up₀ down₀ i₀ up down i = (i ≤ n) × (n ≡ length ring - 3) × (up ≡ every (fans true (at points ring j k)) i) × (down ≡ every (fans false (at points ring j k)) i)
@@ -47,7 +47,7 @@ returns c =
     let l = c.before.before.loop in
     let none : (l.up || l.down) ≡ false = not-true (l.up || l.down) c.if1.true in
     let e : l.i ≤ length a.ring.now - 3 = omega (arith, l.invariant.0, l.invariant.1) in
-    sym (ap₂ ◌||◌ (every-less (fans true (at a.points.now a.ring.now a.j a.k)) l.i (length a.ring.now - 3) e (sym l.invariant.2 ∙ or_left l.up l.down none)) (every-less (fans false (at a.points.now a.ring.now a.j a.k)) l.i (length a.ring.now - 3) e (sym l.invariant.3 ∙ or_right l.up l.down none)))
+    sym (ap₂ ◌||◌ (every_less (fans true (at a.points.now a.ring.now a.j a.k)) l.i (length a.ring.now - 3) e (sym l.invariant.2 ∙ or_left l.up l.down none)) (every_less (fans false (at a.points.now a.ring.now a.j a.k)) l.i (length a.ring.now - 3) e (sym l.invariant.3 ∙ or_right l.up l.down none)))
 
 add-p : tie.Need-overflow-add-p invariant-loop decreases-loop
 add-p c = search rules
@@ -89,8 +89,8 @@ loop-again : tie.Need-loop-preserved invariant-loop decreases-loop
 loop-again c =
     let a = c.before.before.before.before.before.before.before.before.before.before.args in
     let l = c.before.before.before.before.before.before.loop in
-    let p = call-is w64 c.before.side-of.type-inv c.before.side-of.ensures in
-    let q = call-is w64 c.side-of2.type-inv c.side-of2.ensures in (
+    let p = call_is w64 c.before.side-of.type-inv c.before.side-of.ensures in
+    let q = call_is w64 c.side-of2.type-inv c.side-of2.ensures in (
       omega arith,
       l.invariant.1,
       (λ t. l.invariant.2 t && (lt_z (pos 0) (p t) && lt_z (pos 0) (q t))) ∙ every-next (fans true (at a.points.now a.ring.now a.j a.k)) l.i,

@@ -4,19 +4,19 @@ use Prim.Native.Nat.{◌-◌}
 use lib.ListN.{length, get_or}
 use borrow.Author.Rules.{rules}
 use Rattle.space.specs.declared.Axis.{Axis}
-use Rattle.fan.specs.held.Fan.{spotIn, isFan}
-use Rattle.space.specs.held.Points.{placeAt}
-use Rattle.plane.specs.Plane.{dropAxis}
-use Rattle.fan.specs.laws.Planes.{uOf, vOf, fan-plane}
+use Rattle.fan.specs.held.Fan.{spot_in, is_fan_of}
+use Rattle.space.specs.held.Points.{place_at}
+use Rattle.plane.specs.Plane.{drop_axis}
+use Rattle.fan.specs.laws.Planes.{u_of, v_of, fan_plane}
 use Rattle.fan.proofs.is_fan.Statement.{statement}
 use Rattle.fan.proofs.is_fan.Tie as tie
 
 -- the axis that is told is the one that is asked for
-in-plane : (c : tie.Start) {axis : Axis} → c.args.axis ≡ axis
-    → let a = c.args in isFan (λ i. spotIn a.points.now (uOf axis) (vOf axis) (get_or a.ring.now i 0)) (length a.ring.now - 3) ≡ isFan (λ i. dropAxis a.axis (placeAt a.points.now (get_or a.ring.now i 0))) (length a.ring.now - 3)
-in-plane c {axis} e =
+in_plane : (c : tie.Start) {axis : Axis} → c.args.axis ≡ axis
+    → let a = c.args in is_fan_of (λ i. spot_in a.points.now (u_of axis) (v_of axis) (get_or a.ring.now i 0)) (length a.ring.now - 3) ≡ is_fan_of (λ i. drop_axis a.axis (place_at a.points.now (get_or a.ring.now i 0))) (length a.ring.now - 3)
+in_plane c {axis} e =
     let a = c.args in
-    fan-plane axis a.points.now a.ring.now (length a.ring.now - 3) ∙ ap (λ (x : Axis). isFan (λ i. dropAxis x (placeAt a.points.now (get_or a.ring.now i 0))) (length a.ring.now - 3)) (sym e)
+    fan_plane axis a.points.now a.ring.now (length a.ring.now - 3) ∙ ap (λ (x : Axis). is_fan_of (λ i. drop_axis x (place_at a.points.now (get_or a.ring.now i 0))) (length a.ring.now - 3)) (sym e)
 
 enum_told : tie.Need-enum-told
 enum_told c = search rules
@@ -37,13 +37,13 @@ fans-in-requires-3 : tie.Need-fans-in-requires-3
 fans-in-requires-3 c κs = search rules
 
 returns : tie.Need-returns
-returns c = c.fans-in.ensures ∙ in-plane c.before.before.before.before c.before.enum_told.given.1
+returns c = c.fans-in.ensures ∙ in_plane c.before.before.before.before c.before.enum_told.given.1
 
 returns-2 : tie.Need-returns-2
-returns-2 c = c.fans-in2.ensures ∙ in-plane c.before.before.before.before c.before.enum-told2.given.1
+returns-2 c = c.fans-in2.ensures ∙ in_plane c.before.before.before.before c.before.enum-told2.given.1
 
 returns-3 : tie.Need-returns-3
-returns-3 c = c.fans-in3.ensures ∙ in-plane c.before.before.before.before c.before.enum-told3.given.1
+returns-3 c = c.fans-in3.ensures ∙ in_plane c.before.before.before.before c.before.enum-told3.given.1
 
 pub is-fan-spec : {M : Type 1} → statement M
 is-fan-spec =

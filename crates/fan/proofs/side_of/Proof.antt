@@ -7,7 +7,7 @@ use lib.IntN.{ℤ, pos}
 use mir.Syntax.{w64}
 use borrow.Author.Rules.{rules}
 use Rattle.whole.specs.held.Small.{Small}
-use Rattle.whole.specs.laws.Size.{call-is, back-small}
+use Rattle.whole.specs.laws.Size.{call_is, back_small}
 use Rattle.space.specs.held.Points.{Coords}
 use Rattle.plane.specs.held.Edges.{spot, Close}
 use Rattle.plane.specs.Plane.{side}
@@ -19,8 +19,8 @@ use Rattle.fan.proofs.side_of.Tie as tie
 close : {flat : List ℤ} {x y : ℤ} (i j : ℕ) → Coords flat → x ≡ get_or flat i (pos 0) → y ≡ get_or flat j (pos 0) → Close (spot (seen x) (seen y))
 close i j h e f =
     record {
-      on-u = back-small w64 tt (subst (λ (z : ℤ). Small 100000 z) (sym e) (h.small i));
-      on-v = back-small w64 tt (subst (λ (z : ℤ). Small 100000 z) (sym f) (h.small j));
+      on_u = back_small w64 tt (subst (λ (z : ℤ). Small 100000 z) (sym e) (h.small i));
+      on-v = back_small w64 tt (subst (λ (z : ℤ). Small 100000 z) (sym f) (h.small j));
     }
 
 coordinate-requires : tie.Need-coordinate-requires
@@ -48,12 +48,12 @@ side-requires c κs =
 
 returns : tie.Need-returns
 returns c =
-    call-is w64 c.side.type-inv
+    call_is w64 c.side.type-inv
     (c.side.ensures
     ∙ (λ i. side
-    (spot (call-is w64 c.before.before.before.before.before.before.coordinate.type-inv c.before.before.before.before.before.before.coordinate.ensures i) (call-is w64 c.before.before.before.before.before.coordinate2.type-inv c.before.before.before.before.before.coordinate2.ensures i))
-    (spot (call-is w64 c.before.before.before.before.coordinate3.type-inv c.before.before.before.before.coordinate3.ensures i) (call-is w64 c.before.before.before.coordinate4.type-inv c.before.before.before.coordinate4.ensures i))
-    (spot (call-is w64 c.before.before.coordinate5.type-inv c.before.before.coordinate5.ensures i) (call-is w64 c.before.coordinate6.type-inv c.before.coordinate6.ensures i))))
+    (spot (call_is w64 c.before.before.before.before.before.before.coordinate.type-inv c.before.before.before.before.before.before.coordinate.ensures i) (call_is w64 c.before.before.before.before.before.coordinate2.type-inv c.before.before.before.before.before.coordinate2.ensures i))
+    (spot (call_is w64 c.before.before.before.before.coordinate3.type-inv c.before.before.before.before.coordinate3.ensures i) (call_is w64 c.before.before.before.coordinate4.type-inv c.before.before.before.coordinate4.ensures i))
+    (spot (call_is w64 c.before.before.coordinate5.type-inv c.before.before.coordinate5.ensures i) (call_is w64 c.before.coordinate6.type-inv c.before.coordinate6.ensures i))))
 
 pub side-of-spec : {M : Type 1} → statement M
 side-of-spec =

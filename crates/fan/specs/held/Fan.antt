@@ -6,8 +6,8 @@ use Rattle.plane.specs.Plane.{Spot, side}
 use Rattle.plane.specs.held.Edges.{spot}
 
 -- where point p stands in the plane of coordinates i and j
-abbrev pub spotIn : List ℤ → ℕ → ℕ → ℕ → Spot
-spotIn flat i j p = spot (get_or flat (3 * p + i) (pos 0)) (get_or flat (3 * p + j) (pos 0))
+abbrev pub spot_in : List ℤ → ℕ → ℕ → ℕ → Spot
+spot_in flat i j p = spot (get_or flat (3 * p + i) (pos 0)) (get_or flat (3 * p + j) (pos 0))
 
 -- a test holds of every number below n
 unfoldable pub every : (ℕ → Bool) → ℕ → Bool
@@ -24,5 +24,5 @@ abbrev pub fans : Bool → (ℕ → Spot) → ℕ → Bool
 fans way at i = above way (side (at 0) (at (i + 1)) (at (i + 2))) && above way (side (at 0) (at 1) (at (i + 2)))
 
 -- whether n + 2 places after the first fan out
-abbrev pub isFan : (ℕ → Spot) → ℕ → Bool
-isFan at n = every (fans true at) n || every (fans false at) n
+abbrev pub is_fan_of : (ℕ → Spot) → ℕ → Bool
+is_fan_of at n = every (fans true at) n || every (fans false at) n

@@ -2,12 +2,12 @@
 use Rattle.std.specs.Prelude.{ℕ, ◌-◌, ◌≡◌, Bool, List, length, get_or, ℤ}
 use Rattle.whole.specs.laws.Agree.{agree}
 use Rattle.space.specs.declared.Axis.{Axis}
-use Rattle.space.specs.held.Points.{placeAt}
-use Rattle.plane.specs.Plane.{dropAxis}
-use Rattle.fan.specs.held.Fan.{isFan}
+use Rattle.space.specs.held.Points.{place_at}
+use Rattle.plane.specs.Plane.{drop_axis}
+use Rattle.fan.specs.held.Fan.{is_fan_of}
 
-pub is-fan-agrees : (flat : List ℤ) (ring : List ℕ) (axis : Axis) (r₁ r₂ : Bool)
-    → r₁ ≡ isFan (λ i. dropAxis axis (placeAt flat (get_or ring i 0))) (length ring - 3)
-    → r₂ ≡ isFan (λ i. dropAxis axis (placeAt flat (get_or ring i 0))) (length ring - 3)
+pub is_fan_agrees : (flat : List ℤ) (ring : List ℕ) (axis : Axis) (r₁ r₂ : Bool)
+    → r₁ ≡ is_fan_of (λ i. drop_axis axis (place_at flat (get_or ring i 0))) (length ring - 3)
+    → r₂ ≡ is_fan_of (λ i. drop_axis axis (place_at flat (get_or ring i 0))) (length ring - 3)
     → r₁ ≡ r₂
-is-fan-agrees flat ring axis r₁ r₂ = agree
+is_fan_agrees flat ring axis r₁ r₂ = agree

@@ -9,10 +9,10 @@ unfolding every
 every-next t n = ap (every t) (sym (add-one n))
 
 -- what fails of some fails of more
-pub every-less : (t : ℕ → Bool) (i n : ℕ) → i ≤ n → every t i ≡ false → every t n ≡ false
+pub every_less : (t : ℕ → Bool) (i n : ℕ) → i ≤ n → every t i ≡ false → every t n ≡ false
 unfolding every
-every-less t i zero h e = let z : i ≡ 0 = omega arith in sym (ap (every t) z) ∙ e
-every-less t i (suc n) h e = go (dec_lt n i) (λ l. every-less t i n l e)
+every_less t i zero h e = let z : i ≡ 0 = omega arith in sym (ap (every t) z) ∙ e
+every_less t i (suc n) h e = go (dec_lt n i) (λ l. every_less t i n l e)
   where
     go : Dec (n < i) → (i ≤ n → every t n ≡ false) → (every t n && t n) ≡ false
     go (yes p) f = let z : i ≡ suc n = omega arith in sym (ap (every t) z) ∙ e

@@ -1,6 +1,6 @@
 -- `digit_value` meets its contract: what the bits of the byte give is the number of the digit.
 use borrow.Author.Rules.{rules}
-use Rattle.hex.specs.laws.Digits.{digit-is}
+use Rattle.hex.specs.laws.Digits.{digit_is}
 use Rattle.fields.proofs.digit_value.Statement.{statement}
 use Rattle.fields.proofs.digit_value.Tie as tie
 
@@ -14,7 +14,7 @@ cast-result : tie.Need-overflow-cast-result
 cast-result c = search rules
 
 returns : tie.Need-returns
-returns c = digit-is c.args.b c.requires
+returns c = digit_is c.args.b c.requires
 
 pub digit-value-spec : {M : Type 1} → statement M
 digit-value-spec = tie.close (tie.spec mul-result add-result cast-result returns)

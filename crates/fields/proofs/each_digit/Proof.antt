@@ -4,8 +4,8 @@ use native.Mathlib.Omega.{arith}
 use mathlib.Core.Path.{◌≡◌}
 use borrow.Author.Rules.{rules}
 use lib.ListN.{take, drop}
-use Rattle.hex.specs.Hex.{number, numberFrom}
-use Rattle.hex.specs.laws.Digits.{number-turn, number_more, number_fits, allHex-at}
+use Rattle.hex.specs.Hex.{number, number_from}
+use Rattle.hex.specs.laws.Digits.{number-turn, number_more, number_fits, all_hex-at}
 use Rattle.fields.proofs.each_digit.Statement.{statement}
 use Rattle.fields.proofs.each_digit.Tie as tie
 
@@ -16,7 +16,7 @@ abbrev decreases-loop : tie.decreases-loop
 decreases-loop line at k v₀ i₀ v i = k - i
 
 loop-holds : tie.Need-loop-init invariant-loop decreases-loop
-unfolding number numberFrom
+unfolding number number_from
 loop-holds c = search rules
 
 mul-v : tie.Need-overflow-mul-v invariant-loop decreases-loop
@@ -29,7 +29,7 @@ shared-slice-read-digit-value : tie.Need-shared-slice-read-digit-value invariant
 shared-slice-read-digit-value c = search rules
 
 digit-value-requires : tie.Need-digit-value-requires invariant-loop decreases-loop
-digit-value-requires c κs = allHex-at _ _ c.before.before.before.before.requires.hex (omega arith)
+digit-value-requires c κs = all_hex-at _ _ c.before.before.before.before.requires.hex (omega arith)
 
 add-v : tie.Need-overflow-add-v invariant-loop decreases-loop
 add-v c =

@@ -2,7 +2,7 @@
 use native.Mathlib.Omega.{arith}
 use mathlib.Core.Path.{ap, ◌∙◌}
 use Rattle.hex.specs.Hex.{number}
-use Rattle.fields.specs.laws.Lanes.{bytes-of-8, hex-of-4}
+use Rattle.fields.specs.laws.Lanes.{bytes-of_8, hex_of_4}
 use borrow.Author.Rules.{rules}
 use Rattle.fields.proofs.eight.Statement.{statement}
 use Rattle.fields.proofs.eight.Tie as tie
@@ -56,10 +56,10 @@ eight-of-requires : tie.Need-eight-of-requires
 eight-of-requires c κs =
     let s = c.before.before.before.before.before.before.before.before.before in
     let l = s.args.line.now in
-    (hex-of-4 l _ _ _ _ s.requires.hex (omega arith) (omega arith) (omega arith) (omega arith), hex-of-4 l _ _ _ _ s.requires.hex (omega arith) (omega arith) (omega arith) (omega arith))
+    (hex_of_4 l _ _ _ _ s.requires.hex (omega arith) (omega arith) (omega arith) (omega arith), hex_of_4 l _ _ _ _ s.requires.hex (omega arith) (omega arith) (omega arith) (omega arith))
 
 returns : tie.Need-returns
-returns c = let s = c.before.before.before.before.before.before.before.before.before.before in (c.eight-of.ensures.0 ∙ ap number (bytes-of-8 s.args.line.now s.args.at s.requires.inside), c.eight-of.ensures.1)
+returns c = let s = c.before.before.before.before.before.before.before.before.before.before in (c.eight-of.ensures.0 ∙ ap number (bytes-of_8 s.args.line.now s.args.at s.requires.inside), c.eight-of.ensures.1)
 
 pub eight-spec : {M : Type 1} → statement M
 eight-spec =

@@ -2,7 +2,7 @@
 use native.Mathlib.Omega.{arith}
 use mathlib.Core.Path.{ap, ◌∙◌}
 use Rattle.hex.specs.Hex.{number}
-use Rattle.fields.specs.laws.Lanes.{bytes-of-4, hex-of-4}
+use Rattle.fields.specs.laws.Lanes.{bytes-of_4, hex_of_4}
 use borrow.Author.Rules.{rules}
 use Rattle.fields.proofs.four.Statement.{statement}
 use Rattle.fields.proofs.four.Tie as tie
@@ -31,10 +31,10 @@ shared-slice-read-four-of-4 c = search rules
 four-of-requires : tie.Need-four-of-requires
 four-of-requires c κs =
     let s = c.before.before.before.before.before in
-    hex-of-4 s.args.line.now _ _ _ _ s.requires.hex (omega arith) (omega arith) (omega arith) (omega arith)
+    hex_of_4 s.args.line.now _ _ _ _ s.requires.hex (omega arith) (omega arith) (omega arith) (omega arith)
 
 returns : tie.Need-returns
-returns c = let s = c.before.before.before.before.before.before in (c.four-of.ensures.0 ∙ ap number (bytes-of-4 s.args.line.now s.args.at s.requires.inside), c.four-of.ensures.1)
+returns c = let s = c.before.before.before.before.before.before in (c.four-of.ensures.0 ∙ ap number (bytes-of_4 s.args.line.now s.args.at s.requires.inside), c.four-of.ensures.1)
 
 pub four-spec : {M : Type 1} → statement M
 four-spec =

@@ -2,7 +2,7 @@
 use native.Mathlib.Omega.{arith}
 use Prim.Native.Nat.{◌+◌, ◌*◌, ◌/◌}
 use lib.Bits.{and_le_r}
-use Rattle.fields.specs.laws.Lanes.{valued, joined-4, values-few-4, number-of-4}
+use Rattle.fields.specs.laws.Lanes.{valued, joined_4, values_few_4, number_of_4}
 use borrow.Author.Rules.{rules}
 use Rattle.fields.proofs.four_of.Statement.{statement}
 use Rattle.fields.proofs.four_of.Tie as tie
@@ -26,25 +26,25 @@ add-w-3 : tie.Need-overflow-add-w-3
 add-w-3 c = search rules
 
 mul-x : tie.Need-overflow-mul-x
-mul-x c = let a = c.args in omega (arith, and_le_r (joined-4 a.a a.b a.c a.d) 1077952576)
+mul-x c = let a = c.args in omega (arith, and_le_r (joined_4 a.a a.b a.c a.d) 1077952576)
 
 add-x : tie.Need-overflow-add-x
-add-x c = let a = c.args in omega (arith, and_le_r (joined-4 a.a a.b a.c a.d) 252645135, and_le_r (joined-4 a.a a.b a.c a.d) 1077952576)
+add-x c = let a = c.args in omega (arith, and_le_r (joined_4 a.a a.b a.c a.d) 252645135, and_le_r (joined_4 a.a a.b a.c a.d) 1077952576)
 
 mul-y : tie.Need-overflow-mul-y
-mul-y c = let a = c.args in omega (arith, values-few-4 a.a a.b a.c a.d c.requires)
+mul-y c = let a = c.args in omega (arith, values_few_4 a.a a.b a.c a.d c.requires)
 
 add-y : tie.Need-overflow-add-y
-add-y c = let a = c.args in omega (arith, values-few-4 a.a a.b a.c a.d c.requires)
+add-y c = let a = c.args in omega (arith, values_few_4 a.a a.b a.c a.d c.requires)
 
 mul-result : tie.Need-overflow-mul-result
-mul-result c = let a = c.args in let x = (valued 252645135 1077952576 (joined-4 a.a a.b a.c a.d)) in omega (arith, and_le_r (x * 16 + x / 256) 16711935)
+mul-result c = let a = c.args in let x = (valued 252645135 1077952576 (joined_4 a.a a.b a.c a.d)) in omega (arith, and_le_r (x * 16 + x / 256) 16711935)
 
 add-result : tie.Need-overflow-add-result
-add-result c = let a = c.args in let x = (valued 252645135 1077952576 (joined-4 a.a a.b a.c a.d)) in omega (arith, and_le_r (x * 16 + x / 256) 16711935)
+add-result c = let a = c.args in let x = (valued 252645135 1077952576 (joined_4 a.a a.b a.c a.d)) in omega (arith, and_le_r (x * 16 + x / 256) 16711935)
 
 returns : tie.Need-returns
-returns c = let a = c.args in (number-of-4 a.a a.b a.c a.d c.requires, omega arith)
+returns c = let a = c.args in (number_of_4 a.a a.b a.c a.d c.requires, omega arith)
 
 pub four-of-spec : {M : Type 1} → statement M
 four-of-spec =

@@ -4,7 +4,7 @@ use borrow.Author.Tests.{not-true, not-false}
 use borrow.Author.Rules.{rules}
 use Rattle.frame.specs.Frame.{Kind, kind_of}
 use Rattle.frame.specs.held.Meaning.{meaning}
-use Rattle.frame.specs.laws.Decoded.{decode-short, decode-other, decode-kind, decode-unknown, kind-unknown}
+use Rattle.frame.specs.laws.Decoded.{decode-short, decode_other, decode_kind, decode_unknown, kind_unknown}
 use Rattle.frame.proofs.decode.Statement.{statement}
 use Rattle.frame.proofs.decode.Tie as tie
 
@@ -17,7 +17,7 @@ all-hex-requires c κs = search rules
 
 returns-2 : tie.Need-returns-2
 unfolding meaning
-returns-2 c = decode-other _ (sym c.before.all-hex.ensures ∙ not-true _ c.if2.true)
+returns-2 c = decode_other _ (sym c.before.all-hex.ensures ∙ not-true _ c.if2.true)
 
 unsigned-requires : tie.Need-unsigned-requires
 unsigned-requires c κs =
@@ -58,62 +58,62 @@ returns-3 : tie.Need-returns-3
 unfolding kind_of
 returns-3 c =
     let hex = sym c.before.before.before.before.all-hex.ensures ∙ not-false _ c.before.before.before.if2.false in
-    c.read-begin.ensures ∙ decode-kind _ Kind.begin hex c.before.before.unsigned.ensures.0 (ap kind_of c.before.match.keys1)
+    c.read-begin.ensures ∙ decode_kind _ Kind.begin hex c.before.before.unsigned.ensures.0 (ap kind_of c.before.match.keys1)
 
 returns-4 : tie.Need-returns-4
 unfolding kind_of
 returns-4 c =
     let hex = sym c.before.before.before.before.all-hex.ensures ∙ not-false _ c.before.before.before.if2.false in
-    c.read-point.ensures ∙ decode-kind _ Kind.point hex c.before.before.unsigned.ensures.0 (ap kind_of c.before.match.keys2)
+    c.read-point.ensures ∙ decode_kind _ Kind.point hex c.before.before.unsigned.ensures.0 (ap kind_of c.before.match.keys2)
 
 returns-5 : tie.Need-returns-5
 unfolding kind_of
 returns-5 c =
     let hex = sym c.before.before.before.before.all-hex.ensures ∙ not-false _ c.before.before.before.if2.false in
-    c.read-polygon.ensures ∙ decode-kind _ Kind.polygon hex c.before.before.unsigned.ensures.0 (ap kind_of c.before.match.keys3)
+    c.read-polygon.ensures ∙ decode_kind _ Kind.polygon hex c.before.before.unsigned.ensures.0 (ap kind_of c.before.match.keys3)
 
 returns-6 : tie.Need-returns-6
 unfolding kind_of
 returns-6 c =
     let hex = sym c.before.before.before.before.all-hex.ensures ∙ not-false _ c.before.before.before.if2.false in
-    c.read-end-of-load.ensures ∙ decode-kind _ Kind.end-of-load hex c.before.before.unsigned.ensures.0 (ap kind_of c.before.match.keys4)
+    c.read-end-of-load.ensures ∙ decode_kind _ Kind.end_of_load hex c.before.before.unsigned.ensures.0 (ap kind_of c.before.match.keys4)
 
 returns-7 : tie.Need-returns-7
 unfolding kind_of
 returns-7 c =
     let hex = sym c.before.before.before.before.all-hex.ensures ∙ not-false _ c.before.before.before.if2.false in
-    c.read-move.ensures ∙ decode-kind _ Kind.move hex c.before.before.unsigned.ensures.0 (ap kind_of c.before.match.keys5)
+    c.read-move.ensures ∙ decode_kind _ Kind.move hex c.before.before.unsigned.ensures.0 (ap kind_of c.before.match.keys5)
 
 returns-8 : tie.Need-returns-8
 unfolding kind_of
 returns-8 c =
     let hex = sym c.before.before.before.before.all-hex.ensures ∙ not-false _ c.before.before.before.if2.false in
-    c.read-turn.ensures ∙ decode-kind _ Kind.turn hex c.before.before.unsigned.ensures.0 (ap kind_of c.before.match.keys6)
+    c.read-turn.ensures ∙ decode_kind _ Kind.turn hex c.before.before.unsigned.ensures.0 (ap kind_of c.before.match.keys6)
 
 returns-9 : tie.Need-returns-9
 unfolding kind_of
 returns-9 c =
     let hex = sym c.before.before.before.before.all-hex.ensures ∙ not-false _ c.before.before.before.if2.false in
-    c.read-question.ensures ∙ decode-kind _ Kind.question hex c.before.before.unsigned.ensures.0 (ap kind_of c.before.match.keys7)
+    c.read-question.ensures ∙ decode_kind _ Kind.question hex c.before.before.unsigned.ensures.0 (ap kind_of c.before.match.keys7)
 
 returns-10 : tie.Need-returns-10
 unfolding kind_of
 returns-10 c =
     let hex = sym c.before.before.before.before.all-hex.ensures ∙ not-false _ c.before.before.before.if2.false in
-    c.read-inner.ensures ∙ decode-kind _ Kind.inner hex c.before.before.unsigned.ensures.0 (ap kind_of c.before.match.keys8)
+    c.read-inner.ensures ∙ decode_kind _ Kind.inner hex c.before.before.unsigned.ensures.0 (ap kind_of c.before.match.keys8)
 
 returns-11 : tie.Need-returns-11
 unfolding kind_of
 returns-11 c =
     let hex = sym c.before.before.before.before.all-hex.ensures ∙ not-false _ c.before.before.before.if2.false in
-    c.read-across.ensures ∙ decode-kind _ Kind.across hex c.before.before.unsigned.ensures.0 (ap kind_of c.before.match.keys9)
+    c.read-across.ensures ∙ decode_kind _ Kind.across hex c.before.before.unsigned.ensures.0 (ap kind_of c.before.match.keys9)
 
 returns-12 : tie.Need-returns-12
 unfolding meaning
 returns-12 c =
     let hex = sym c.before.before.before.all-hex.ensures ∙ not-false _ c.before.before.if2.false in
     let r = c.match.rest in
-    decode-unknown _ hex c.before.unsigned.ensures.0 (kind-unknown c.before.unsigned.result r.0.0.0.0.0.0.0.0.1 r.0.0.0.0.0.0.0.1 r.0.0.0.0.0.0.1 r.0.0.0.0.0.1 r.0.0.0.0.1 r.0.0.0.1 r.0.0.1 r.0.1 r.1)
+    decode_unknown _ hex c.before.unsigned.ensures.0 (kind_unknown c.before.unsigned.result r.0.0.0.0.0.0.0.0.1 r.0.0.0.0.0.0.0.1 r.0.0.0.0.0.0.1 r.0.0.0.0.0.1 r.0.0.0.0.1 r.0.0.0.1 r.0.0.1 r.0.1 r.1)
 
 pub decode-spec : {M : Type 1} → statement M
 decode-spec =

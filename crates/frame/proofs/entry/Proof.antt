@@ -2,7 +2,7 @@
 use native.Mathlib.Omega.{arith}
 use mathlib.Core.Path.{◌∙◌}
 use borrow.Author.Rules.{rules}
-use Rattle.frame.specs.laws.Decoded.{entry-inside, entry-is}
+use Rattle.frame.specs.laws.Decoded.{entry-inside, entry_is}
 use Rattle.frame.proofs.entry.Statement.{statement}
 use Rattle.frame.proofs.entry.Tie as tie
 
@@ -24,7 +24,7 @@ cast-result c = search rules
 returns : tie.Need-returns
 returns c =
     let a = c.before.before.args in
-    c.unsigned.ensures.0 ∙ entry-is a.line.now a.i c.before.before.requires
+    c.unsigned.ensures.0 ∙ entry_is a.line.now a.i c.before.before.requires
 
 pub entry_spec : {M : Type 1} → statement M
 entry_spec = tie.close (tie.spec mul-unsigned add-unsigned unsigned-requires cast-result returns)

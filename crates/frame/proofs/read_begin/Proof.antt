@@ -3,7 +3,7 @@ use borrow.Author.Tests.{ne_eqb}
 use borrow.Author.Rules.{rules}
 use Rattle.frame.specs.Frame.{Kind, fits}
 use Rattle.frame.specs.held.Meaning.{meaning}
-use Rattle.frame.specs.laws.Decoded.{shaped-broken, begin-is}
+use Rattle.frame.specs.laws.Decoded.{shaped_broken, begin_is}
 use Rattle.frame.proofs.read_begin.Statement.{statement}
 use Rattle.frame.proofs.read_begin.Tie as tie
 
@@ -15,11 +15,11 @@ cast-t5 c = search rules
 
 returns : tie.Need-returns
 unfolding meaning
-returns c = begin-is _ c.before.if1.true c.unsigned.ensures.0
+returns c = begin_is _ c.before.if1.true c.unsigned.ensures.0
 
 returns-2 : tie.Need-returns-2
 unfolding meaning fits
-returns-2 c = shaped-broken Kind.begin _ (ne_eqb _ 6 c.if1.false)
+returns-2 c = shaped_broken Kind.begin _ (ne_eqb _ 6 c.if1.false)
 
 pub read-begin-spec : {M : Type 1} → statement M
 read-begin-spec = tie.close (tie.spec unsigned-requires cast-t5 returns returns-2)

@@ -3,7 +3,7 @@ use borrow.Author.Tests.{ne_eqb}
 use borrow.Author.Rules.{rules}
 use Rattle.frame.specs.Frame.{Kind, fits}
 use Rattle.frame.specs.held.Meaning.{meaning}
-use Rattle.frame.specs.laws.Decoded.{shaped-broken, field_of, move-is}
+use Rattle.frame.specs.laws.Decoded.{shaped_broken, field_of, move_is}
 use Rattle.hex.specs.laws.Signed.{signed_back}
 use Rattle.frame.proofs.read_move.Statement.{statement}
 use Rattle.frame.proofs.read_move.Tie as tie
@@ -33,14 +33,14 @@ returns : tie.Need-returns
 unfolding meaning
 returns c =
     let l = c.before.before.before.before.before.before.before.args.line.now in
-    move-is l c.before.before.before.before.before.if1.true c.before.before.before.before.unsigned.ensures.0 c.before.before.before.unsigned2.ensures.0
+    move_is l c.before.before.before.before.before.if1.true c.before.before.before.before.unsigned.ensures.0 c.before.before.before.unsigned2.ensures.0
     (signed_back (field_of 8 14 l) c.before.before.coordinate.ensures)
     (signed_back (field_of 8 22 l) c.before.coordinate2.ensures)
     (signed_back (field_of 8 30 l) c.coordinate3.ensures)
 
 returns-2 : tie.Need-returns-2
 unfolding meaning fits
-returns-2 c = shaped-broken Kind.move _ (ne_eqb _ 38 c.if1.false)
+returns-2 c = shaped_broken Kind.move _ (ne_eqb _ 38 c.if1.false)
 
 pub read-move-spec : {M : Type 1} → statement M
 read-move-spec =

@@ -3,7 +3,7 @@ use borrow.Author.Tests.{ne_eqb}
 use borrow.Author.Rules.{rules}
 use Rattle.frame.specs.Frame.{Kind, fits}
 use Rattle.frame.specs.held.Meaning.{meaning}
-use Rattle.frame.specs.laws.Decoded.{shaped-broken, field_of, point-is}
+use Rattle.frame.specs.laws.Decoded.{shaped_broken, field_of, point_is}
 use Rattle.hex.specs.laws.Signed.{signed_back}
 use Rattle.frame.proofs.read_point.Statement.{statement}
 use Rattle.frame.proofs.read_point.Tie as tie
@@ -21,14 +21,14 @@ returns : tie.Need-returns
 unfolding meaning
 returns c =
     let l = c.before.before.before.before.before.args.line.now in
-    point-is l c.before.before.before.if1.true
+    point_is l c.before.before.before.if1.true
     (signed_back (field_of 8 2 l) c.before.before.coordinate.ensures)
     (signed_back (field_of 8 10 l) c.before.coordinate2.ensures)
     (signed_back (field_of 8 18 l) c.coordinate3.ensures)
 
 returns-2 : tie.Need-returns-2
 unfolding meaning fits
-returns-2 c = shaped-broken Kind.point _ (ne_eqb _ 26 c.if1.false)
+returns-2 c = shaped_broken Kind.point _ (ne_eqb _ 26 c.if1.false)
 
 pub read-point-spec : {M : Type 1} → statement M
 read-point-spec =

@@ -3,7 +3,7 @@ use mathlib.Core.Path.{sym, ◌∙◌}
 use borrow.Author.Rules.{rules}
 use Rattle.frame.specs.Frame.{Kind, fits}
 use Rattle.frame.specs.held.Meaning.{meaning}
-use Rattle.frame.specs.laws.Decoded.{shaped-broken, polygon-is}
+use Rattle.frame.specs.laws.Decoded.{shaped_broken, polygon_is}
 use Rattle.frame.proofs.read_polygon.Statement.{statement}
 use Rattle.frame.proofs.read_polygon.Tie as tie
 
@@ -12,11 +12,11 @@ fits-ring-requires c κs = search rules
 
 returns : tie.Need-returns
 unfolding meaning
-returns c = polygon-is _ (sym c.before.fits-ring.ensures ∙ c.if1.true)
+returns c = polygon_is _ (sym c.before.fits-ring.ensures ∙ c.if1.true)
 
 returns-2 : tie.Need-returns-2
 unfolding meaning fits
-returns-2 c = shaped-broken Kind.polygon _ (sym c.before.fits-ring.ensures ∙ c.if1.false)
+returns-2 c = shaped_broken Kind.polygon _ (sym c.before.fits-ring.ensures ∙ c.if1.false)
 
 pub read-polygon-spec : {M : Type 1} → statement M
 read-polygon-spec = tie.close (tie.spec fits-ring-requires returns returns-2)

@@ -3,7 +3,7 @@ use borrow.Author.Tests.{ne_eqb}
 use borrow.Author.Rules.{rules}
 use Rattle.frame.specs.Frame.{Kind, fits}
 use Rattle.frame.specs.held.Meaning.{meaning}
-use Rattle.frame.specs.laws.Decoded.{shaped-broken, turn_is}
+use Rattle.frame.specs.laws.Decoded.{shaped_broken, turn_is}
 use Rattle.frame.proofs.read_turn.Statement.{statement}
 use Rattle.frame.proofs.read_turn.Tie as tie
 
@@ -25,7 +25,7 @@ returns c = turn_is _ c.before.before.if1.true c.before.unsigned.ensures.0 c.uns
 
 returns-2 : tie.Need-returns-2
 unfolding meaning fits
-returns-2 c = shaped-broken Kind.turn _ (ne_eqb _ 14 c.if1.false)
+returns-2 c = shaped_broken Kind.turn _ (ne_eqb _ 14 c.if1.false)
 
 pub read-turn-spec : {M : Type 1} → statement M
 read-turn-spec =

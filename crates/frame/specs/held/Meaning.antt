@@ -1,6 +1,6 @@
 -- What a value of the code's `Fields` says of a line: document 01's frame, with its values.
 use Rattle.std.specs.Prelude.{ℕ, zero, suc, ◌<◌, ◌≡◌, true, cond, List, [], ◌∷◌, length, drop}
-use Rattle.hex.specs.Hex.{allHex}
+use Rattle.hex.specs.Hex.{all_hex_of}
 use Rattle.frame.specs.Frame.{Frame, Kind, fits, numbers, filled}
 use Rattle.frame.specs.declared.Fields.{Fields}
 use Rattle.frame.specs.declared.Fields.TheVariants.{Begin, Point, Polygon, EndOfLoad, Move, Turn, Question, Inner, Across, Broken}
@@ -16,7 +16,7 @@ unfoldable pub meaning : Fields → List ℕ → Frame
 meaning (Begin tolerance) l = Frame.begin tolerance
 meaning (Point x y z) l = Frame.point x y z
 meaning (Polygon n) l = Frame.polygon (counted n (numbers (drop 2 l)))
-meaning EndOfLoad l = Frame.end-of-load
+meaning EndOfLoad l = Frame.end_of_load
 meaning (Move number p x y z) l = Frame.move number p x y z
 meaning (Turn number p) l = Frame.turn number p
 meaning (Question p) l = Frame.question p
@@ -26,7 +26,7 @@ meaning Broken l = Frame.broken
 
 -- the line of a frame with a ring has an i-th point number
 pub record Listed (l : List ℕ) (i : ℕ) : Type 0 where
-  pub hex : allHex l ≡ true
+  pub hex : all_hex_of l ≡ true
   pub below : i < length (numbers (drop 2 l))
 
 -- the frame of a line of digits that names a kind

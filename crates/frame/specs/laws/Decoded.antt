@@ -8,10 +8,10 @@ use Rattle.std.proofs.Math.Option.{Option, none, some, some-injective, none-ne-s
 use Rattle.std.proofs.lemmas.Bool.{lt-leb}
 use Rattle.std.proofs.Math.ListN.{drop}
 use Rattle.std.proofs.Math.Seq.{drop-drop}
-use Rattle.hex.specs.Hex.{allHex, number, signed32}
-use Rattle.frame.specs.Frame.{Frame, begin, point, polygon, end-of-load, move, turn, question, inner, across, broken, Kind, kind_of, kindNamed, fitsRing, fits, unsigned, coordinate, numbers, filled, decode}
-use Rattle.whole.specs.laws.Bools.{and_left, and_right, and-false}
-use Rattle.frame.specs.laws.RoundTrip.{numbers-few, fits-few}
+use Rattle.hex.specs.Hex.{all_hex_of, number, signed32}
+use Rattle.frame.specs.Frame.{Frame, begin, point, polygon, end_of_load, move, turn, question, inner, across, broken, Kind, kind_of, kind_named, fits_ring_of, fits, unsigned, coordinate, numbers, filled, decode}
+use Rattle.whole.specs.laws.Bools.{and_left, and_right, and_false}
+use Rattle.frame.specs.laws.RoundTrip.{numbers_few, fits_few}
 use Rattle.frame.specs.declared.Fields.{Fields}
 use Rattle.frame.specs.declared.Fields.TheVariants.{Begin, Point, Polygon, EndOfLoad, Move, Turn, Question, Inner, Across, Broken}
 use Rattle.frame.specs.held.Meaning.{counted, meaning, Listed, shaped}
@@ -55,9 +55,9 @@ shaped-filled : (k : Kind) (l : List ℕ) → fits k (length l) ≡ true → fil
 unfolding shaped
 shaped-filled k l h = rw h
 
-pub shaped-broken : (k : Kind) (l : List ℕ) → fits k (length l) ≡ false → broken ≡ shaped k l
+pub shaped_broken : (k : Kind) (l : List ℕ) → fits k (length l) ≡ false → broken ≡ shaped k l
 unfolding shaped
-shaped-broken k l h = rw h
+shaped_broken k l h = rw h
 
 -- the unsigned field of k digits at an offset
 abbrev pub field_of : ℕ → ℕ → List ℕ → ℕ
@@ -68,24 +68,24 @@ abbrev pub coordinate-of : ℕ → List ℕ → ℤ
 coordinate-of at l = signed32 (number (take 8 (drop at l)))
 
 -- the length of a line with a ring, and one that is too long for it
-pub ring-short : (n : ℕ) → n ≤ 514 → eqb (n % 4) 2 ≡ fitsRing n
-ring-short n h = rw (le-leb n 514 h)
+pub ring_short : (n : ℕ) → n ≤ 514 → eqb (n % 4) 2 ≡ fits_ring_of n
+ring_short n h = rw (le-leb n 514 h)
 
-pub ring_long : (n : ℕ) → 514 < n → false ≡ fitsRing n
+pub ring_long : (n : ℕ) → 514 < n → false ≡ fits_ring_of n
 ring_long n h = rw (lt-leb n 514 h)
 
 module _ (l : List ℕ) where
-  pub begin-is : {t : ℕ} → length l ≡ 6 → t ≡ field_of 4 2 l → begin t ≡ shaped Kind.begin l
+  pub begin_is : {t : ℕ} → length l ≡ 6 → t ≡ field_of 4 2 l → begin t ≡ shaped Kind.begin l
   unfolding fits filled unsigned
-  begin-is h e = ap begin e ∙ shaped-filled Kind.begin l (eq-eqb (length l) 6 h)
+  begin_is h e = ap begin e ∙ shaped-filled Kind.begin l (eq-eqb (length l) 6 h)
 
-  pub question-is : {p : ℕ} → length l ≡ 6 → p ≡ field_of 4 2 l → question p ≡ shaped Kind.question l
+  pub question_is : {p : ℕ} → length l ≡ 6 → p ≡ field_of 4 2 l → question p ≡ shaped Kind.question l
   unfolding fits filled unsigned
-  question-is h e = ap question e ∙ shaped-filled Kind.question l (eq-eqb (length l) 6 h)
+  question_is h e = ap question e ∙ shaped-filled Kind.question l (eq-eqb (length l) 6 h)
 
-  pub end_is : length l ≡ 2 → end-of-load ≡ shaped Kind.end-of-load l
+  pub end_is : length l ≡ 2 → end_of_load ≡ shaped Kind.end_of_load l
   unfolding fits filled
-  end_is h = shaped-filled Kind.end-of-load l (eq-eqb (length l) 2 h)
+  end_is h = shaped-filled Kind.end_of_load l (eq-eqb (length l) 2 h)
 
   -- a place read from an offset, whatever frame it is for
   place_is : (f : ℤ → ℤ → ℤ → Frame) (at : ℕ) {x y z : ℤ} → x ≡ coordinate-of at l → y ≡ coordinate-of (at + 8) l → z ≡ coordinate-of (at + 8 + 8) l
@@ -96,9 +96,9 @@ module _ (l : List ℕ) where
       let b : drop 8 (drop (at + 8) l) ≡ drop (at + 8 + 8) l = drop-drop 8 (at + 8) l in
       rw (a, b) (λ i. f (p i) (q i) (r i))
 
-  pub point-is : {x y z : ℤ} → length l ≡ 26 → x ≡ coordinate-of 2 l → y ≡ coordinate-of 10 l → z ≡ coordinate-of 18 l → point x y z ≡ shaped Kind.point l
+  pub point_is : {x y z : ℤ} → length l ≡ 26 → x ≡ coordinate-of 2 l → y ≡ coordinate-of 10 l → z ≡ coordinate-of 18 l → point x y z ≡ shaped Kind.point l
   unfolding fits filled
-  point-is h p q r = place_is point 2 p q r ∙ shaped-filled Kind.point l (eq-eqb (length l) 26 h)
+  point_is h p q r = place_is point 2 p q r ∙ shaped-filled Kind.point l (eq-eqb (length l) 26 h)
 
   pub turn_is : {n p : ℕ} → length l ≡ 14 → n ≡ field_of 8 2 l → p ≡ field_of 4 10 l → turn n p ≡ shaped Kind.turn l
   unfolding fits filled unsigned
@@ -106,16 +106,16 @@ module _ (l : List ℕ) where
       let a : drop 8 (drop 2 l) ≡ drop 10 l = drop-drop 8 2 l in
       (λ i. turn (d i) (e i)) ∙ ap (λ (k : List ℕ). turn (field_of 8 2 l) (number (take 4 k))) (sym a) ∙ shaped-filled Kind.turn l (eq-eqb (length l) 14 h)
 
-  pub across-is : {m n : ℕ} → length l ≡ 10 → m ≡ field_of 4 2 l → n ≡ field_of 4 6 l → across m n ≡ shaped Kind.across l
+  pub across_is : {m n : ℕ} → length l ≡ 10 → m ≡ field_of 4 2 l → n ≡ field_of 4 6 l → across m n ≡ shaped Kind.across l
   unfolding fits filled unsigned
-  across-is h d e =
+  across_is h d e =
       let a : drop 4 (drop 2 l) ≡ drop 6 l = drop-drop 4 2 l in
       (λ i. across (d i) (e i)) ∙ ap (λ (k : List ℕ). across (field_of 4 2 l) (number (take 4 k))) (sym a) ∙ shaped-filled Kind.across l (eq-eqb (length l) 10 h)
 
-  pub move-is : {n p : ℕ} {x y z : ℤ} → length l ≡ 38 → n ≡ field_of 8 2 l → p ≡ field_of 4 10 l
+  pub move_is : {n p : ℕ} {x y z : ℤ} → length l ≡ 38 → n ≡ field_of 8 2 l → p ≡ field_of 4 10 l
       → x ≡ coordinate-of 14 l → y ≡ coordinate-of 22 l → z ≡ coordinate-of 30 l → move n p x y z ≡ shaped Kind.move l
   unfolding fits filled unsigned
-  move-is {n} {p} {x} {y} {z} h d e a b c =
+  move_is {n} {p} {x} {y} {z} h d e a b c =
       let u : drop 8 (drop 2 l) ≡ drop 10 l = drop-drop 8 2 l in
       let v : drop 4 (drop 10 l) ≡ drop 14 l = drop-drop 4 10 l in
       (λ i. move (d i) (e i) x y z)
@@ -123,26 +123,26 @@ module _ (l : List ℕ) where
       ∙ rw (← v, ← u) (shaped-filled Kind.move l (eq-eqb (length l) 38 h))
 
   -- a line with a ring lists a point number for each four of its digits
-  ring-counted : fitsRing (length l) ≡ true → counted (length l / 4) (numbers (drop 2 l)) ≡ numbers (drop 2 l)
-  ring-counted h =
+  ring_counted : fits_ring_of (length l) ≡ true → counted (length l / 4) (numbers (drop 2 l)) ≡ numbers (drop 2 l)
+  ring_counted h =
       let g : length l % 4 ≡ 2 = eqb-true (length l % 4) 2 (and_right (leb (length l) 514) (eqb (length l % 4) 2) h) in
       let a : length (numbers (drop 2 l)) ≡ length (drop 2 l) / 4 = length-numbers (drop 2 l) in
       let b : length (drop 2 l) ≡ length l - 2 = length-drop 2 l in
       let e : length l / 4 ≡ length (numbers (drop 2 l)) = omega arith in
       ap (λ (m : ℕ). counted m (numbers (drop 2 l))) e ∙ counted-all (numbers (drop 2 l))
 
-  pub polygon-is : fitsRing (length l) ≡ true → polygon (counted (length l / 4) (numbers (drop 2 l))) ≡ shaped Kind.polygon l
+  pub polygon_is : fits_ring_of (length l) ≡ true → polygon (counted (length l / 4) (numbers (drop 2 l))) ≡ shaped Kind.polygon l
   unfolding fits filled
-  polygon-is h = ap polygon (ring-counted h) ∙ shaped-filled Kind.polygon l h
+  polygon_is h = ap polygon (ring_counted h) ∙ shaped-filled Kind.polygon l h
 
-  pub inner-is : fitsRing (length l) ≡ true → inner (counted (length l / 4) (numbers (drop 2 l))) ≡ shaped Kind.inner l
+  pub inner_is : fits_ring_of (length l) ≡ true → inner (counted (length l / 4) (numbers (drop 2 l))) ≡ shaped Kind.inner l
   unfolding fits filled
-  inner-is h = ap inner (ring-counted h) ∙ shaped-filled Kind.inner l h
+  inner_is h = ap inner (ring_counted h) ∙ shaped-filled Kind.inner l h
 
 -- ---- a line by its kind
 
-short-ring : (n : ℕ) → n < 2 → fitsRing n ≡ false
-short-ring n h =
+short_ring : (n : ℕ) → n < 2 → fits_ring_of n ≡ false
+short_ring n h =
     let a : n ≤ 514 = omega arith in
     rw (le-leb n 514 a) (ne_eqb (n % 4) 2 (λ e. omega arith))
 
@@ -150,12 +150,12 @@ short-fits : (k : Kind) (n : ℕ) → n < 2 → fits k n ≡ false
 unfolding fits
 short-fits Kind.begin n h = ne_eqb n 6 (λ e. omega arith)
 short-fits Kind.point n h = ne_eqb n 26 (λ e. omega arith)
-short-fits Kind.polygon n h = short-ring n h
-short-fits Kind.end-of-load n h = ne_eqb n 2 (λ e. omega arith)
+short-fits Kind.polygon n h = short_ring n h
+short-fits Kind.end_of_load n h = ne_eqb n 2 (λ e. omega arith)
 short-fits Kind.move n h = ne_eqb n 38 (λ e. omega arith)
 short-fits Kind.turn n h = ne_eqb n 14 (λ e. omega arith)
 short-fits Kind.question n h = ne_eqb n 6 (λ e. omega arith)
-short-fits Kind.inner n h = short-ring n h
+short-fits Kind.inner n h = short_ring n h
 short-fits Kind.across n h = ne_eqb n 10 (λ e. omega arith)
 short-fits Kind.unknown n h = refl
 
@@ -163,32 +163,32 @@ module _ (l : List ℕ) where
   pub decode-short : length l < 2 → broken ≡ decode l
   unfolding decode
   decode-short h =
-      let a : (allHex l && fits (kindNamed l) (length l)) ≡ false = rw (short-fits (kindNamed l) (length l) h) (and-false (allHex l)) in
+      let a : (all_hex_of l && fits (kind_named l) (length l)) ≡ false = rw (short-fits (kind_named l) (length l) h) (and_false (all_hex_of l)) in
       rw (a, decode)
 
-  pub decode-other : allHex l ≡ false → broken ≡ decode l
+  pub decode_other : all_hex_of l ≡ false → broken ≡ decode l
   unfolding decode
-  decode-other h = rw (h, decode)
+  decode_other h = rw (h, decode)
 
   -- n is the number of the line's first two digits
-  pub decode-kind : {n : ℕ} (k : Kind) → allHex l ≡ true → n ≡ number (take 2 l) → kind_of n ≡ k → shaped k l ≡ decode l
-  unfolding decode shaped kindNamed
-  decode-kind {n} k h e g = go (fits k (length l)) refl
+  pub decode_kind : {n : ℕ} (k : Kind) → all_hex_of l ≡ true → n ≡ number (take 2 l) → kind_of n ≡ k → shaped k l ≡ decode l
+  unfolding decode shaped kind_named
+  decode_kind {n} k h e g = go (fits k (length l)) refl
     where
-      named : kindNamed l ≡ k
+      named : kind_named l ≡ k
       named = ap kind_of (sym e) ∙ g
 
       go : (c : Bool) → fits k (length l) ≡ c → cond (fits k (length l)) (filled k (drop 2 l)) broken ≡ decode l
       go true d = rw (h, named, d, decode) (ap (λ (m : Kind). filled m (drop 2 l)) (sym named))
       go false d = rw (h, named, d, decode)
 
-  pub decode-unknown : {n : ℕ} → allHex l ≡ true → n ≡ number (take 2 l) → kind_of n ≡ Kind.unknown → broken ≡ decode l
+  pub decode_unknown : {n : ℕ} → all_hex_of l ≡ true → n ≡ number (take 2 l) → kind_of n ≡ Kind.unknown → broken ≡ decode l
   unfolding shaped fits
-  decode-unknown h e g = decode-kind Kind.unknown h e g
+  decode_unknown h e g = decode_kind Kind.unknown h e g
 
-pub kind-unknown : (n : ℕ) → (n ≡ 1 → ⊥) → (n ≡ 2 → ⊥) → (n ≡ 3 → ⊥) → (n ≡ 4 → ⊥) → (n ≡ 5 → ⊥) → (n ≡ 6 → ⊥) → (n ≡ 7 → ⊥) → (n ≡ 8 → ⊥) → (n ≡ 12 → ⊥) → kind_of n ≡ Kind.unknown
+pub kind_unknown : (n : ℕ) → (n ≡ 1 → ⊥) → (n ≡ 2 → ⊥) → (n ≡ 3 → ⊥) → (n ≡ 4 → ⊥) → (n ≡ 5 → ⊥) → (n ≡ 6 → ⊥) → (n ≡ 7 → ⊥) → (n ≡ 8 → ⊥) → (n ≡ 12 → ⊥) → kind_of n ≡ Kind.unknown
 unfolding kind_of
-kind-unknown n a b c d e f g i h =
+kind_unknown n a b c d e f g i h =
     rw (ne_eqb n 1 a, ne_eqb n 2 b, ne_eqb n 3 c, ne_eqb n 4 d, ne_eqb n 5 e, ne_eqb n 6 f, ne_eqb n 7 g, ne_eqb n 8 i, ne_eqb n 12 h)
 
 -- ---- the frame of a line settles the decoder's answer
@@ -197,7 +197,7 @@ unfoldable pub fields_of : Frame → Fields
 fields_of (begin t) = Begin t
 fields_of (point x y z) = Point x y z
 fields_of (polygon ring) = Polygon (length ring)
-fields_of end-of-load = EndOfLoad
+fields_of end_of_load = EndOfLoad
 fields_of (move n p x y z) = Move n p x y z
 fields_of (turn n p) = Turn n p
 fields_of (question p) = Question p
@@ -218,120 +218,120 @@ fields_back (Inner n) l = ap Inner (length-counted n (numbers (drop 2 l)))
 fields_back (Across a b) l = refl
 fields_back Broken l = refl
 
-pub meaning-tells : (r s : Fields) (l : List ℕ) → meaning r l ≡ meaning s l → r ≡ s
-meaning-tells r s l e = sym (fields_back r l) ∙ ap fields_of e ∙ fields_back s l
+pub meaning_tells : (r s : Fields) (l : List ℕ) → meaning r l ≡ meaning s l → r ≡ s
+meaning_tells r s l e = sym (fields_back r l) ∙ ap fields_of e ∙ fields_back s l
 
 -- what a caller knows of the line once it has matched the answer r as s
-pub decoded-as : (l : List ℕ) (r s : Fields) → meaning r l ≡ decode l → r ≡ s → decode l ≡ meaning s l
-decoded-as l r s e p = sym e ∙ ap (λ (x : Fields). meaning x l) p
+pub decoded_as : (l : List ℕ) (r s : Fields) → meaning r l ≡ decode l → r ≡ s → decode l ≡ meaning s l
+decoded_as l r s e p = sym e ∙ ap (λ (x : Fields). meaning x l) p
 
 -- ---- the line of a frame with a ring
 
 -- the ring of a frame that has one
-unfoldable pub ringOf : Frame → Option (List ℕ)
-ringOf (begin t) = none
-ringOf (point x y z) = none
-ringOf (polygon ring) = some ring
-ringOf end-of-load = none
-ringOf (move n p x y z) = none
-ringOf (turn n p) = none
-ringOf (question p) = none
-ringOf (inner ring) = some ring
-ringOf (across a b) = none
-ringOf broken = none
+unfoldable pub ring_of : Frame → Option (List ℕ)
+ring_of (begin t) = none
+ring_of (point x y z) = none
+ring_of (polygon ring) = some ring
+ring_of end_of_load = none
+ring_of (move n p x y z) = none
+ring_of (turn n p) = none
+ring_of (question p) = none
+ring_of (inner ring) = some ring
+ring_of (across a b) = none
+ring_of broken = none
 
 -- a ring of at most 128 numbers, those of the line
 record RingLine (l ring : List ℕ) : Type 0 where
   is : ring ≡ numbers (drop 2 l)
   few : length ring ≤ 128
 
-some-ring : (l ring : List ℕ) → fitsRing (length l) ≡ true → some ring ≡ some (numbers (drop 2 l)) → RingLine l ring
-some-ring l ring f e =
+some_ring : (l ring : List ℕ) → fits_ring_of (length l) ≡ true → some ring ≡ some (numbers (drop 2 l)) → RingLine l ring
+some_ring l ring f e =
     let d : ring ≡ numbers (drop 2 l) = some-injective ring (numbers (drop 2 l)) e in
-    record { is = d; few = omega (arith, ap length d, fits-few l f) }
+    record { is = d; few = omega (arith, ap length d, fits_few l f) }
 
-filled-ring : (k : Kind) (ring l : List ℕ) → fits k (length l) ≡ true → some ring ≡ ringOf (filled k (drop 2 l)) → RingLine l ring
-unfolding fits filled unsigned coordinate ringOf
-filled-ring Kind.begin ring l f e = absurd (none-ne-some ring (sym e))
-filled-ring Kind.point ring l f e = absurd (none-ne-some ring (sym e))
-filled-ring Kind.polygon ring l f e = some-ring l ring f e
-filled-ring Kind.end-of-load ring l f e = absurd (none-ne-some ring (sym e))
-filled-ring Kind.move ring l f e = absurd (none-ne-some ring (sym e))
-filled-ring Kind.turn ring l f e = absurd (none-ne-some ring (sym e))
-filled-ring Kind.question ring l f e = absurd (none-ne-some ring (sym e))
-filled-ring Kind.inner ring l f e = some-ring l ring f e
-filled-ring Kind.across ring l f e = absurd (none-ne-some ring (sym e))
-filled-ring Kind.unknown ring l f e = absurd (none-ne-some ring (sym e))
+filled_ring : (k : Kind) (ring l : List ℕ) → fits k (length l) ≡ true → some ring ≡ ring_of (filled k (drop 2 l)) → RingLine l ring
+unfolding fits filled unsigned coordinate ring_of
+filled_ring Kind.begin ring l f e = absurd (none-ne-some ring (sym e))
+filled_ring Kind.point ring l f e = absurd (none-ne-some ring (sym e))
+filled_ring Kind.polygon ring l f e = some_ring l ring f e
+filled_ring Kind.end_of_load ring l f e = absurd (none-ne-some ring (sym e))
+filled_ring Kind.move ring l f e = absurd (none-ne-some ring (sym e))
+filled_ring Kind.turn ring l f e = absurd (none-ne-some ring (sym e))
+filled_ring Kind.question ring l f e = absurd (none-ne-some ring (sym e))
+filled_ring Kind.inner ring l f e = some_ring l ring f e
+filled_ring Kind.across ring l f e = absurd (none-ne-some ring (sym e))
+filled_ring Kind.unknown ring l f e = absurd (none-ne-some ring (sym e))
 
-decode-ring : (ring l : List ℕ) → some ring ≡ ringOf (decode l) → (allHex l ≡ true) × RingLine l ring
-unfolding decode ringOf
-decode-ring ring l = go (allHex l && fits (kindNamed l) (length l)) refl
+decode_ring : (ring l : List ℕ) → some ring ≡ ring_of (decode l) → (all_hex_of l ≡ true) × RingLine l ring
+unfolding decode ring_of
+decode_ring ring l = go (all_hex_of l && fits (kind_named l) (length l)) refl
   where
-    go : (b : Bool) → (allHex l && fits (kindNamed l) (length l)) ≡ b → some ring ≡ ringOf (decode l) → (allHex l ≡ true) × RingLine l ring
-    go true d e = (and_left (allHex l) (fits (kindNamed l) (length l)) d, filled-ring (kindNamed l) ring l (and_right (allHex l) (fits (kindNamed l) (length l)) d) (rw (d, decode) at e))
+    go : (b : Bool) → (all_hex_of l && fits (kind_named l) (length l)) ≡ b → some ring ≡ ring_of (decode l) → (all_hex_of l ≡ true) × RingLine l ring
+    go true d e = (and_left (all_hex_of l) (fits (kind_named l) (length l)) d, filled_ring (kind_named l) ring l (and_right (all_hex_of l) (fits (kind_named l) (length l)) d) (rw (d, decode) at e))
     go false d e = absurd (none-ne-some ring (sym (rw (d, decode) at e)))
 
 -- n numbers of the line are the ring of its frame
-module _ (l : List ℕ) (n : ℕ) (e : some (counted n (numbers (drop 2 l))) ≡ ringOf (decode l)) where
-  ring-line : (allHex l ≡ true) × RingLine l (counted n (numbers (drop 2 l)))
-  ring-line = decode-ring (counted n (numbers (drop 2 l))) l e
+module _ (l : List ℕ) (n : ℕ) (e : some (counted n (numbers (drop 2 l))) ≡ ring_of (decode l)) where
+  ring_line : (all_hex_of l ≡ true) × RingLine l (counted n (numbers (drop 2 l)))
+  ring_line = decode_ring (counted n (numbers (drop 2 l))) l e
 
-  pub ring-count : n ≡ length (numbers (drop 2 l))
-  ring-count = sym (length-counted n (numbers (drop 2 l))) ∙ ap length ring-line.1.is
+  pub ring_count : n ≡ length (numbers (drop 2 l))
+  ring_count = sym (length-counted n (numbers (drop 2 l))) ∙ ap length ring_line.1.is
 
-  pub ring-few : n ≤ 128
-  ring-few = omega (arith, length-counted n (numbers (drop 2 l)), ring-line.1.few)
+  pub ring_few : n ≤ 128
+  ring_few = omega (arith, length-counted n (numbers (drop 2 l)), ring_line.1.few)
 
-  pub ring-listed : (i : ℕ) → i < n → Listed l i
-  ring-listed i h = record { hex = ring-line.0; below = omega (arith, ring-count) }
+  pub ring_listed : (i : ℕ) → i < n → Listed l i
+  ring_listed i h = record { hex = ring_line.0; below = omega (arith, ring_count) }
 
-  ring-whole : counted n (numbers (drop 2 l)) ≡ numbers (drop 2 l)
-  ring-whole = ring-line.1.is
+  ring_whole : counted n (numbers (drop 2 l)) ≡ numbers (drop 2 l)
+  ring_whole = ring_line.1.is
 
 module _ (l : List ℕ) (n : ℕ) (e : meaning (Polygon n) l ≡ decode l) where
-  polygon-has : some (counted n (numbers (drop 2 l))) ≡ ringOf (decode l)
-  unfolding meaning ringOf
-  polygon-has = ap ringOf e
+  polygon-has : some (counted n (numbers (drop 2 l))) ≡ ring_of (decode l)
+  unfolding meaning ring_of
+  polygon-has = ap ring_of e
 
   pub polygon-count : n ≡ length (numbers (drop 2 l))
-  polygon-count = ring-count l n polygon-has
+  polygon-count = ring_count l n polygon-has
 
-  pub polygon-ring : decode l ≡ polygon (numbers (drop 2 l))
+  pub polygon_ring : decode l ≡ polygon (numbers (drop 2 l))
   unfolding meaning
-  polygon-ring = sym e ∙ ap polygon (ring-whole l n polygon-has)
+  polygon_ring = sym e ∙ ap polygon (ring_whole l n polygon-has)
 
-  pub polygon-few : n ≤ 128
-  polygon-few = ring-few l n polygon-has
+  pub polygon_few : n ≤ 128
+  polygon_few = ring_few l n polygon-has
 
   pub polygon-listed : (i : ℕ) → i < n → Listed l i
-  polygon-listed = ring-listed l n polygon-has
+  polygon-listed = ring_listed l n polygon-has
 
 module _ (l : List ℕ) (n : ℕ) (e : meaning (Inner n) l ≡ decode l) where
-  inner-has : some (counted n (numbers (drop 2 l))) ≡ ringOf (decode l)
-  unfolding meaning ringOf
-  inner-has = ap ringOf e
+  inner-has : some (counted n (numbers (drop 2 l))) ≡ ring_of (decode l)
+  unfolding meaning ring_of
+  inner-has = ap ring_of e
 
   pub inner-count : n ≡ length (numbers (drop 2 l))
-  inner-count = ring-count l n inner-has
+  inner-count = ring_count l n inner-has
 
-  pub inner-ring : decode l ≡ inner (numbers (drop 2 l))
+  pub inner_ring : decode l ≡ inner (numbers (drop 2 l))
   unfolding meaning
-  inner-ring = sym e ∙ ap inner (ring-whole l n inner-has)
+  inner_ring = sym e ∙ ap inner (ring_whole l n inner-has)
 
-  pub inner-few : n ≤ 128
-  inner-few = ring-few l n inner-has
+  pub inner_few : n ≤ 128
+  inner_few = ring_few l n inner-has
 
   pub inner-listed : (i : ℕ) → i < n → Listed l i
-  inner-listed = ring-listed l n inner-has
+  inner-listed = ring_listed l n inner-has
 
 -- ---- where the i-th point number stands
 
 module _ (l : List ℕ) (i : ℕ) (h : Listed l i) where
   pub entry-inside : 2 + 4 * i + 4 ≤ length l
   entry-inside =
-      let a : 4 * length (numbers (drop 2 l)) ≤ length (drop 2 l) = numbers-few (drop 2 l) in
+      let a : 4 * length (numbers (drop 2 l)) ≤ length (drop 2 l) = numbers_few (drop 2 l) in
       let b : length (drop 2 l) ≡ length l - 2 = length-drop 2 l in
       omega (arith, h.below)
 
-  pub entry-is : field_of 4 (2 + 4 * i) l ≡ get_or (numbers (drop 2 l)) i 0
-  entry-is = ap (λ (k : List ℕ). number (take 4 k)) (sym (drop-drop (4 * i) 2 l)) ∙ sym (numbers-at (drop 2 l) i h.below)
+  pub entry_is : field_of 4 (2 + 4 * i) l ≡ get_or (numbers (drop 2 l)) i 0
+  entry_is = ap (λ (k : List ℕ). number (take 4 k)) (sym (drop-drop (4 * i) 2 l)) ∙ sym (numbers-at (drop 2 l) i h.below)

@@ -6,13 +6,13 @@ use mathlib.Core.Bool.{true, ◌&&◌}
 use borrow.Author.Rules.{rules}
 use lib.ListN.{length, drop}
 use Rattle.whole.specs.laws.Bools.{and_left}
-use Rattle.hex.specs.Hex.{allHex}
-use Rattle.hex.specs.laws.Digits.{hex-block, hex-last, hex-start, hex-finish}
+use Rattle.hex.specs.Hex.{all_hex_of}
+use Rattle.hex.specs.laws.Digits.{hex_block, hex_last, hex_start, hex_finish}
 use Rattle.hex.proofs.all_hex.Statement.{statement}
 use Rattle.hex.proofs.all_hex.Tie as tie
 
 abbrev invariant-loop : tie.invariant-loop
-invariant-loop line last good₀ i₀ good i = ((good && allHex (drop i line)) ≡ allHex line) × (good ≡ true → allHex (drop last line) ≡ true)
+invariant-loop line last good₀ i₀ good i = ((good && all_hex_of (drop i line)) ≡ all_hex_of line) × (good ≡ true → all_hex_of (drop last line) ≡ true)
 
 abbrev decreases-loop : tie.decreases-loop
 decreases-loop line last good₀ i₀ good i = length line - i
@@ -32,8 +32,8 @@ sixteen-hex-requires c κs = search rules
 loop-holds : tie.Need-loop-init invariant-loop decreases-loop
 loop-holds c =
     let s = c.before.before.before.args.line.now in
-    let e = hex-last s (length s - 16) (omega arith) c.sixteen-hex.ensures in
-    (hex-start s (length s - 16) e, λ t. sym e ∙ t)
+    let e = hex_last s (length s - 16) (omega arith) c.sixteen-hex.ensures in
+    (hex_start s (length s - 16) e, λ t. sym e ∙ t)
 
 sixteen-hex-requires-2 : tie.Need-sixteen-hex-requires-2 invariant-loop decreases-loop
 sixteen-hex-requires-2 c κs = search rules
@@ -49,13 +49,13 @@ loop-again c =
     let l = c.before.before.loop in
     let s = c.before.before.before.before.before.before.args.line.now in
     let r = c.sixteen-hex2 in
-    (hex-block s l.i l.good r.result r.ensures ∙ l.invariant.0, λ t. l.invariant.1 (and_left l.good r.result t))
+    (hex_block s l.i l.good r.result r.ensures ∙ l.invariant.0, λ t. l.invariant.1 (and_left l.good r.result t))
 
 returns-2 : tie.Need-returns-2 invariant-loop decreases-loop
 returns-2 c =
     let l = c.before.loop in
     let s = c.before.before.before.before.before.args.line.now in
-    sym (hex-finish s (length s - 16) l.good l.i (omega arith) l.invariant.1) ∙ l.invariant.0
+    sym (hex_finish s (length s - 16) l.good l.i (omega arith) l.invariant.1) ∙ l.invariant.0
 
 pub all-hex-spec : {M : Type 1} → statement M
 all-hex-spec =

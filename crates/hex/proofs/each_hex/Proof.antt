@@ -4,13 +4,13 @@ use mathlib.Core.Path.{◌≡◌, refl, sym, ◌∙◌}
 use mathlib.Core.Bool.{◌&&◌}
 use borrow.Author.Rules.{rules}
 use lib.ListN.{length, drop}
-use Rattle.hex.specs.Hex.{allHex}
-use Rattle.hex.specs.laws.Digits.{hex-turn, hex-end}
+use Rattle.hex.specs.Hex.{all_hex_of}
+use Rattle.hex.specs.laws.Digits.{hex_turn, hex_end}
 use Rattle.hex.proofs.each_hex.Statement.{statement}
 use Rattle.hex.proofs.each_hex.Tie as tie
 
 abbrev invariant-loop : tie.invariant-loop
-invariant-loop line good₀ i₀ good i = (good && allHex (drop i line)) ≡ allHex line
+invariant-loop line good₀ i₀ good i = (good && all_hex_of (drop i line)) ≡ all_hex_of line
 
 abbrev decreases-loop : tie.decreases-loop
 decreases-loop line good₀ i₀ good i = length line - i
@@ -33,10 +33,10 @@ loop-less c = search rules
 loop-again : tie.Need-loop-preserved invariant-loop decreases-loop
 loop-again c =
     let l = c.before.before.before.loop in
-    hex-turn _ l.i l.good c.is-hex.result c.before.before.loop-test.true c.is-hex.ensures ∙ l.invariant
+    hex_turn _ l.i l.good c.is-hex.result c.before.before.loop-test.true c.is-hex.ensures ∙ l.invariant
 
 returns : tie.Need-returns invariant-loop decreases-loop
-returns c = sym (hex-end _ _ _ c.loop-test.false) ∙ c.before.loop.invariant
+returns c = sym (hex_end _ _ _ c.loop-test.false) ∙ c.before.loop.invariant
 
 pub each-hex-spec : {M : Type 1} → statement M
 each-hex-spec =

@@ -1,11 +1,11 @@
 -- `is_hex` meets its contract: the tests are those of the definition.
 use mathlib.Core.Path.{refl}
-use Rattle.hex.specs.Hex.{isHex}
+use Rattle.hex.specs.Hex.{is_hex_of}
 use Rattle.hex.proofs.is_hex.Statement.{statement}
 use Rattle.hex.proofs.is_hex.Tie as tie
 
 returns : tie.Need-returns
-unfolding isHex
+unfolding is_hex_of
 returns c = refl
 
 pub is-hex-spec : {M : Type 1} → statement M

@@ -4,19 +4,19 @@ use native.Mathlib.Omega.{arith}
 use mathlib.Core.Path.{◌≡◌}
 use borrow.Author.Rules.{rules}
 use lib.ListN.{take, drop}
-use Rattle.hex.specs.Hex.{allHex}
-use Rattle.hex.specs.laws.Digits.{hex-more}
+use Rattle.hex.specs.Hex.{all_hex_of}
+use Rattle.hex.specs.laws.Digits.{hex_more}
 use Rattle.hex.proofs.sixteen_hex.Statement.{statement}
 use Rattle.hex.proofs.sixteen_hex.Tie as tie
 
 abbrev invariant-loop : tie.invariant-loop
-invariant-loop line at good₀ i₀ good i = (i ≤ 16) × (good ≡ allHex (take i (drop at line)))
+invariant-loop line at good₀ i₀ good i = (i ≤ 16) × (good ≡ all_hex_of (take i (drop at line)))
 
 abbrev decreases-loop : tie.decreases-loop
 decreases-loop line at good₀ i₀ good i = 16 - i
 
 loop-holds : tie.Need-loop-init invariant-loop decreases-loop
-unfolding allHex
+unfolding all_hex_of
 loop-holds c = search rules
 
 add-b : tie.Need-overflow-add-b invariant-loop decreases-loop
@@ -38,7 +38,7 @@ loop-again : tie.Need-loop-preserved invariant-loop decreases-loop
 loop-again c =
     let l = c.before.before.before.loop in
     let a = c.before.before.before.before.before.args in
-    (omega arith, rw l.invariant.1 (hex-more a.line.now a.at l.i c.is-hex.result (omega arith) c.is-hex.ensures))
+    (omega arith, rw l.invariant.1 (hex_more a.line.now a.at l.i c.is-hex.result (omega arith) c.is-hex.ensures))
 
 returns : tie.Need-returns invariant-loop decreases-loop
 returns c =

@@ -2,34 +2,34 @@
 use Rattle.std.specs.Prelude.{ℕ, zero, suc, ◌+◌, ◌*◌, ◌-◌, ◌/◌, ◌%◌, ◌^◌, ◌≤◌, ◌<◌, ◌≡◌, refl, Bool, true, false, cond, List, [], ◌∷◌, ◌++◌, ltb, length, ℤ, pos, negsuc}
 use Rattle.std.proofs.Common.{arith, pow-suc, ◌∙◌, length-append}
 use borrow.Author.Tests.{lt-ltb, le-ltb, le-leb}
-use Rattle.hex.specs.Hex.{isHex, allHex, digitValue, numberFrom, number, signed32, digit, digits, bits32}
+use Rattle.hex.specs.Hex.{is_hex_of, all_hex_of, digit_value_of, number_from, number, signed32, digit, digits, bits32}
 
 -- ---- one digit
 
-isHex-low : (b : ℕ) → 48 ≤ b → b < 58 → isHex b ≡ true
-unfolding isHex
-isHex-low b h g = rw (le-leb 48 b h, lt-ltb b 58 g)
+is_hex-low : (b : ℕ) → 48 ≤ b → b < 58 → is_hex_of b ≡ true
+unfolding is_hex_of
+is_hex-low b h g = rw (le-leb 48 b h, lt-ltb b 58 g)
 
-isHex-high : (b : ℕ) → 65 ≤ b → b < 71 → isHex b ≡ true
-unfolding isHex
-isHex-high b h g =
+is_hex-high : (b : ℕ) → 65 ≤ b → b < 71 → is_hex_of b ≡ true
+unfolding is_hex_of
+is_hex-high b h g =
     let a : 48 ≤ b = omega arith in
     let d : 58 ≤ b = omega arith in
     rw (le-leb 48 b a, le-ltb b 58 d, le-leb 65 b h, lt-ltb b 71 g)
 
-pub isHex-digit : (n : ℕ) → n < 16 → isHex (digit n) ≡ true
+pub is_hex-digit : (n : ℕ) → n < 16 → is_hex_of (digit n) ≡ true
 unfolding digit
-isHex-digit n h = go (ltb n 10) refl
+is_hex-digit n h = go (ltb n 10) refl
   where
-    go : (b : Bool) → ltb n 10 ≡ b → isHex (cond b (n + 48) (n + 55)) ≡ true
-    go true e = isHex-low (n + 48) (omega arith) (omega (arith, borrow.Author.Tests.ltb-true n 10 e))
-    go false e = isHex-high (n + 55) (omega (arith, borrow.Author.Tests.ltb-false n 10 e)) (omega arith)
+    go : (b : Bool) → ltb n 10 ≡ b → is_hex_of (cond b (n + 48) (n + 55)) ≡ true
+    go true e = is_hex-low (n + 48) (omega arith) (omega (arith, borrow.Author.Tests.ltb-true n 10 e))
+    go false e = is_hex-high (n + 55) (omega (arith, borrow.Author.Tests.ltb-false n 10 e)) (omega arith)
 
-pub digitValue-digit : (n : ℕ) → n < 16 → digitValue (digit n) ≡ n
-unfolding digit digitValue
-digitValue-digit n h = go (ltb n 10) refl
+pub digit_value-digit : (n : ℕ) → n < 16 → digit_value_of (digit n) ≡ n
+unfolding digit digit_value_of
+digit_value-digit n h = go (ltb n 10) refl
   where
-    go : (b : Bool) → ltb n 10 ≡ b → digitValue (cond b (n + 48) (n + 55)) ≡ n
+    go : (b : Bool) → ltb n 10 ≡ b → digit_value_of (cond b (n + 48) (n + 55)) ≡ n
     go true e =
         let a : n + 48 < 58 = omega (arith, borrow.Author.Tests.ltb-true n 10 e) in
         rw (lt-ltb (n + 48) 58 a) (omega arith)
@@ -39,23 +39,23 @@ digitValue-digit n h = go (ltb n 10) refl
 
 -- ---- digits
 
-pub allHex-append : (s t : List ℕ) → allHex s ≡ true → allHex t ≡ true → allHex (s ++ t) ≡ true
-unfolding allHex
-allHex-append [] t h g = g
-allHex-append (b ∷ s) t h g = go (isHex b) refl h (λ q. allHex-append s t q g)
+pub all_hex_append : (s t : List ℕ) → all_hex_of s ≡ true → all_hex_of t ≡ true → all_hex_of (s ++ t) ≡ true
+unfolding all_hex_of
+all_hex_append [] t h g = g
+all_hex_append (b ∷ s) t h g = go (is_hex_of b) refl h (λ q. all_hex_append s t q g)
   where
-    go : (c : Bool) → isHex b ≡ c → allHex (b ∷ s) ≡ true → (allHex s ≡ true → allHex (s ++ t) ≡ true) → allHex (b ∷ s ++ t) ≡ true
-    go true e h ih = rw (e, allHex) (ih (rw (e, allHex) at h))
-    go false e h ih = rw (e, allHex) (rw (e, allHex) at h)
+    go : (c : Bool) → is_hex_of b ≡ c → all_hex_of (b ∷ s) ≡ true → (all_hex_of s ≡ true → all_hex_of (s ++ t) ≡ true) → all_hex_of (b ∷ s ++ t) ≡ true
+    go true e h ih = rw (e, all_hex_of) (ih (rw (e, all_hex_of) at h))
+    go false e h ih = rw (e, all_hex_of) (rw (e, all_hex_of) at h)
 
-allHex-one : (n : ℕ) → n < 16 → allHex (digit n ∷ []) ≡ true
-unfolding allHex
-allHex-one n h = rw (isHex-digit n h, allHex)
+all_hex-one : (n : ℕ) → n < 16 → all_hex_of (digit n ∷ []) ≡ true
+unfolding all_hex_of
+all_hex-one n h = rw (is_hex-digit n h, all_hex_of)
 
-pub allHex-digits : (k v : ℕ) → allHex (digits k v) ≡ true
-unfolding digits allHex
-allHex-digits zero v = refl
-allHex-digits (suc k) v = allHex-append (digits k (v / 16)) (digit (v % 16) ∷ []) (allHex-digits k (v / 16)) (allHex-one (v % 16) (omega arith))
+pub all_hex-digits : (k v : ℕ) → all_hex_of (digits k v) ≡ true
+unfolding digits all_hex_of
+all_hex-digits zero v = refl
+all_hex-digits (suc k) v = all_hex_append (digits k (v / 16)) (digit (v % 16) ∷ []) (all_hex-digits k (v / 16)) (all_hex-one (v % 16) (omega arith))
 
 pub length_digits : (k v : ℕ) → length (digits k v) ≡ k
 unfolding digits
@@ -64,19 +64,19 @@ length_digits (suc k) v =
     let h : length (digits k (v / 16)) ≡ k = length_digits k (v / 16) in
     length-append (digits k (v / 16)) (digit (v % 16) ∷ []) ∙ (rw h (omega arith))
 
-pub numberFrom-append : (n : ℕ) (s t : List ℕ) → numberFrom n (s ++ t) ≡ numberFrom (numberFrom n s) t
-unfolding numberFrom
-numberFrom-append n [] t = refl
-numberFrom-append n (b ∷ s) t = numberFrom-append (n * 16 + digitValue b) s t
+pub number_from_append : (n : ℕ) (s t : List ℕ) → number_from n (s ++ t) ≡ number_from (number_from n s) t
+unfolding number_from
+number_from_append n [] t = refl
+number_from_append n (b ∷ s) t = number_from_append (n * 16 + digit_value_of b) s t
 
 pub number_digits : (k v : ℕ) → v < 16 ^ k → number (digits k v) ≡ v
-unfolding number numberFrom digits
+unfolding number number_from digits
 number_digits zero v h = omega arith
 number_digits (suc k) v h =
     let a : v < 16 ^ k * 16 = rw pow-suc at h in
-    let ih : numberFrom 0 (digits k (v / 16)) ≡ v / 16 = number_digits k (v / 16) (omega arith) in
-    numberFrom-append 0 (digits k (v / 16)) (digit (v % 16) ∷ [])
-    ∙ rw (ih, digitValue-digit (v % 16) (omega arith)) (omega arith)
+    let ih : number_from 0 (digits k (v / 16)) ≡ v / 16 = number_digits k (v / 16) (omega arith) in
+    number_from_append 0 (digits k (v / 16)) (digit (v % 16) ∷ [])
+    ∙ rw (ih, digit_value-digit (v % 16) (omega arith)) (omega arith)
 
 -- ---- coordinates
 
@@ -85,10 +85,10 @@ pub data Fits32 : ℤ → Type 0 where
   above : {n : ℕ} → n < 2 ^ 31 → Fits32 (pos n)
   below : {n : ℕ} → n < 2 ^ 31 → Fits32 (negsuc n)
 
-pub bits32-small : (z : ℤ) → Fits32 z → bits32 z < 16 ^ 8
+pub bits32_small : (z : ℤ) → Fits32 z → bits32 z < 16 ^ 8
 unfolding bits32
-bits32-small (pos n) (above h) = omega arith
-bits32-small (negsuc n) (below h) = omega arith
+bits32_small (pos n) (above h) = omega arith
+bits32_small (negsuc n) (below h) = omega arith
 
 pub signed32-bits32 : (z : ℤ) → Fits32 z → signed32 (bits32 z) ≡ z
 unfolding bits32 signed32

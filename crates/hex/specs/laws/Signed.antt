@@ -22,10 +22,10 @@ flip (negsuc n) h =
     let e : suc n - 1 ≡ n = omega arith in
     rw (le-ltb (suc n) 1 a, e)
 
-pub bits-neg : (z : ℤ) → lt_z z (pos 0) ≡ true → 18446744073709551615 - mag z ≡ bits64 z
+pub bits_neg : (z : ℤ) → lt_z z (pos 0) ≡ true → 18446744073709551615 - mag z ≡ bits64 z
 unfolding bits64
-bits-neg (pos n) h = absurd (omega (arith, ltb-true n 0 h))
-bits-neg (negsuc n) h = refl
+bits_neg (pos n) h = absurd (omega (arith, ltb-true n 0 h))
+bits_neg (negsuc n) h = refl
 
 pub bits_pos : (z : ℤ) → lt_z z (pos 0) ≡ false → (T (non_neg z) × (nat_abs z ≡ bits64 z))
 unfolding bits64
@@ -49,9 +49,9 @@ module _ (z : ℤ) (fits : SFits w64 z) where
     pub back : to_z w64 (of_z w64 (negsuc 0 -ℤ to_z w64 (of_z w64 z))) ≡ pos (mag z)
     back = ap (λ (y : ℤ). to_z w64 (of_z w64 y)) flipped ∙ to_z_pos w64 fits.sfits
 
-signed-fits64 : (v : ℕ) → SFits w64 (signed32 v)
+signed_fits64 : (v : ℕ) → SFits w64 (signed32 v)
 unfolding signed32
-signed-fits64 v = go (ltb v (2 ^ 31)) refl
+signed_fits64 v = go (ltb v (2 ^ 31)) refl
   where
     go : (c : Bool) → ltb v (2 ^ 31) ≡ c → SFits w64 (cond c (pos v) (negsuc (2 ^ 32 - 1 - v)))
     go true e = record { sfits = omega (arith, ltb-true v (2 ^ 31) e) }
@@ -81,11 +81,11 @@ module _ (v : ℕ) (g : v < 2 ^ 32) where
           rw (d, lt-ltb (v - 2147483648) 2147483648 k, f)
 
   pub lifted-fits : SFits w64 (to_z w64 ((v + 2147483648) % 4294967296) -ℤ pos 2147483648)
-  lifted-fits = rw lifted (signed-fits64 v)
+  lifted-fits = rw lifted (signed_fits64 v)
 
   pub signed-lifted : to_z w64 (of_z w64 (to_z w64 ((v + 2147483648) % 4294967296) -ℤ pos 2147483648)) ≡ signed32 v
   signed-lifted = to_z-of_z lifted-fits ∙ lifted
 
 -- a coordinate, as a called function hands it back
 pub signed_back : {r : ℤ} (v : ℕ) → r ≡ signed32 v → to_z w64 (of_z w64 r) ≡ signed32 v
-signed_back {r} v e = ap (λ (z : ℤ). to_z w64 (of_z w64 z)) e ∙ to_z-of_z (signed-fits64 v)
+signed_back {r} v e = ap (λ (z : ℤ). to_z w64 (of_z w64 z)) e ∙ to_z-of_z (signed_fits64 v)

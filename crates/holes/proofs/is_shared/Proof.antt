@@ -1,7 +1,7 @@
 -- `holes::is_shared` meets its contract. The plane is that of the two coordinates that the axis leaves.
 use mathlib.Core.Path.{◌∙◌}
 use borrow.Author.Rules.{rules}
-use Rattle.holes.specs.laws.Polygons.{in-plane, shared-tells}
+use Rattle.holes.specs.laws.Polygons.{in_plane, shared-tells}
 use Rattle.holes.proofs.is_shared.Statement.{statement}
 use Rattle.holes.proofs.is_shared.Tie as tie
 
@@ -12,7 +12,7 @@ second-left-requires : tie.Need-second-left-requires
 second-left-requires c κs = search rules
 
 two-meet-requires : tie.Need-two-meet-requires
-two-meet-requires c κs = let s = c.before.before in (s.requires.0, (s.requires.1, in-plane s.requires.0 s.args.axis c.before.first-left.ensures c.second-left.ensures))
+two-meet-requires c κs = let s = c.before.before in (s.requires.0, (s.requires.1, in_plane s.requires.0 s.args.axis c.before.first-left.ensures c.second-left.ensures))
 
 returns : tie.Need-returns
 returns c =

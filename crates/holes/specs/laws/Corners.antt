@@ -5,16 +5,16 @@ use Rattle.std.proofs.Common.{arith, ◌∙◌}
 use Rattle.std.proofs.Math.Path.{refl, sym, ap, ap₂}
 use Rattle.std.proofs.Math.Bool.{Bool, false, not, ◌||◌}
 use mathlib.Core.List.{List, [], ◌∷◌}
-use Rattle.whole.specs.Lists.{any, anyTwo, steps, stepsFrom, last_of}
+use Rattle.whole.specs.Lists.{any, any_two, steps, steps_from, last_of}
 use Rattle.whole.specs.All.{All, none, more}
-use Rattle.whole.specs.laws.Alls.{any_none, none_any, all-imp}
-use Rattle.whole.specs.laws.Reverse.{any-or, anyTwo-or}
+use Rattle.whole.specs.laws.Alls.{any_none, none_any, all_imp}
+use Rattle.whole.specs.laws.Reverse.{any_or, any_two_or}
 use Rattle.whole.specs.laws.Search.{two-parts}
 use Rattle.plane.specs.Plane.{Spot, share}
 use Rattle.rays.specs.Inside.{inside}
 use Rattle.rays.specs.laws.Parity.{path_inside}
-use Rattle.holes.specs.Holes.{meet, is_shared, isInside, isNested, isOpposite, isMisplaced}
-use Rattle.holes.specs.laws.Some.{any-agree}
+use Rattle.holes.specs.Holes.{meet, is_shared, is_inside, is_nested, is_opposite, is_misplaced_of}
+use Rattle.holes.specs.laws.Some.{any_agree}
 use Rattle.holes.specs.laws.Meeting.{meet-sym}
 
 -- a ring that is there and ends where it begins
@@ -27,26 +27,26 @@ module _ {s : List Spot} (c : Closed s) where
   unfolding meet steps
   alike p path h = go s c h
     where
-      go : (s : List Spot) → Closed s → any (λ e. any (share e) (steps s)) (stepsFrom p path) ≡ false → All (λ (q : Spot). inside q (steps s) ≡ inside p (steps s)) path
-      go (a ∷ l) (closed e) h = path_inside a l e p path (any_none (λ e. any (share e) (steps (a ∷ l))) (stepsFrom p path) h)
+      go : (s : List Spot) → Closed s → any (λ e. any (share e) (steps s)) (steps_from p path) ≡ false → All (λ (q : Spot). inside q (steps s) ≡ inside p (steps s)) path
+      go (a ∷ l) (closed e) h = path_inside a l e p path (any_none (λ e. any (share e) (steps (a ∷ l))) (steps_from p path) h)
 
   -- so that one corner tells
-  pub first-tells : (p : Spot) (path : List Spot) → meet (p ∷ path) s ≡ false → isInside (p ∷ path) s ≡ inside p (steps s)
-  unfolding isInside
-  first-tells p path h = ap not (any-or out p path) ∙ go (inside p (steps s)) (alike p path h)
+  pub first_tells : (p : Spot) (path : List Spot) → meet (p ∷ path) s ≡ false → is_inside (p ∷ path) s ≡ inside p (steps s)
+  unfolding is_inside
+  first_tells p path h = ap not (any_or out p path) ∙ go (inside p (steps s)) (alike p path h)
     where
       out : Spot → Bool
       out q = not (inside q (steps s))
 
       go : (b : Bool) → All (λ (q : Spot). inside q (steps s) ≡ b) path → not (not b || any out path) ≡ b
-      go true a = ap not (none_any out path (all-imp (λ q e. ap not e) a))
+      go true a = ap not (none_any out path (all_imp (λ q e. ap not e) a))
       go false a = refl
 
   -- whichever it is
-  pub corner-tells : (d : Spot) (r : List Spot) (i : ℕ) → i < length r → meet r s ≡ false → isInside r s ≡ inside (get_or r i d) (steps s)
-  corner-tells d [] i l h = absurd (omega arith)
-  corner-tells d (p ∷ path) zero l h = first-tells p path h
-  corner-tells d (p ∷ path) (suc i) l h = first-tells p path h ∙ sym (at path i (alike p path h) (omega arith))
+  pub corner_tells : (d : Spot) (r : List Spot) (i : ℕ) → i < length r → meet r s ≡ false → is_inside r s ≡ inside (get_or r i d) (steps s)
+  corner_tells d [] i l h = absurd (omega arith)
+  corner_tells d (p ∷ path) zero l h = first_tells p path h
+  corner_tells d (p ∷ path) (suc i) l h = first_tells p path h ∙ sym (at path i (alike p path h) (omega arith))
     where
       at : (path : List Spot) (i : ℕ) → All (λ (q : Spot). inside q (steps s) ≡ inside p (steps s)) path → i < length path → inside (get_or path i d) (steps s) ≡ inside p (steps s)
       at [] i none l = absurd (omega arith)
@@ -62,38 +62,38 @@ module _ (d : Spot) where
   abbrev pub nested : List Spot → List Spot → Bool
   nested r s = stands r s || stands s r
 
-  inside_is : {r s : List Spot} → Closed r → Closed s → meet r s ≡ false → isInside r s ≡ stands r s
-  inside_is (closed {a = p} {l = path} f) c h = first-tells c p path h
+  inside_is : {r s : List Spot} → Closed r → Closed s → meet r s ≡ false → is_inside r s ≡ stands r s
+  inside_is (closed {a = p} {l = path} f) c h = first_tells c p path h
 
-  nested_is : {r s : List Spot} → Closed r → Closed s → meet r s ≡ false → isNested r s ≡ nested r s
-  unfolding isNested
+  nested_is : {r s : List Spot} → Closed r → Closed s → meet r s ≡ false → is_nested r s ≡ nested r s
+  unfolding is_nested
   nested_is {r} {s} c e h = ap₂ ◌||◌ (inside_is c e h) (inside_is e c (meet-sym s r ∙ h))
 
   -- inner rings that share no point with the outer one, and none with one another
-  outside-tells : {outer : List Spot} {inner : List (List Spot)} → Closed outer → All Closed inner → any (meet outer) inner ≡ false
-      → any (λ r. not (isInside r outer)) inner ≡ any (λ r. not (stands r outer)) inner
-  outside-tells {outer} {inner} c cs h = any-agree (λ r. not (isInside r outer)) (λ r. not (stands r outer)) (go cs (any_none (meet outer) inner h))
+  outside_tells : {outer : List Spot} {inner : List (List Spot)} → Closed outer → All Closed inner → any (meet outer) inner ≡ false
+      → any (λ r. not (is_inside r outer)) inner ≡ any (λ r. not (stands r outer)) inner
+  outside_tells {outer} {inner} c cs h = any_agree (λ r. not (is_inside r outer)) (λ r. not (stands r outer)) (go cs (any_none (meet outer) inner h))
     where
-      go : {l : List (List Spot)} → All Closed l → All (λ (r : List Spot). meet outer r ≡ false) l → All (λ (r : List Spot). not (isInside r outer) ≡ not (stands r outer)) l
+      go : {l : List (List Spot)} → All Closed l → All (λ (r : List Spot). meet outer r ≡ false) l → All (λ (r : List Spot). not (is_inside r outer) ≡ not (stands r outer)) l
       go none none = none
       go (more {x = r} k ks) (more e es) = more (ap not (inside_is k c (meet-sym r outer ∙ e))) (go ks es)
 
-  nested-tells : {inner : List (List Spot)} → All Closed inner → anyTwo meet inner ≡ false → anyTwo isNested inner ≡ anyTwo nested inner
-  unfolding anyTwo
-  nested-tells none h = refl
-  nested-tells (more {x = r} {l = l} k ks) h =
+  nested_tells : {inner : List (List Spot)} → All Closed inner → any_two meet inner ≡ false → any_two is_nested inner ≡ any_two nested inner
+  unfolding any_two
+  nested_tells none h = refl
+  nested_tells (more {x = r} {l = l} k ks) h =
       let w = two-parts meet r l h in
-      anyTwo-or isNested r l
-      ∙ ap₂ ◌||◌ (any-agree (isNested r) (nested r) (go ks (any_none (meet r) l w.0))) (nested-tells ks w.1)
-      ∙ sym (anyTwo-or nested r l)
+      any_two_or is_nested r l
+      ∙ ap₂ ◌||◌ (any_agree (is_nested r) (nested r) (go ks (any_none (meet r) l w.0))) (nested_tells ks w.1)
+      ∙ sym (any_two_or nested r l)
     where
-      go : {l : List (List Spot)} → All Closed l → All (λ (s : List Spot). meet r s ≡ false) l → All (λ (s : List Spot). isNested r s ≡ nested r s) l
+      go : {l : List (List Spot)} → All Closed l → All (λ (s : List Spot). meet r s ≡ false) l → All (λ (s : List Spot). is_nested r s ≡ nested r s) l
       go none none = none
       go (more c cs) (more e es) = more (nested_is k c e) (go cs es)
 
   pub corners-tell : {outer : List Spot} {inner : List (List Spot)} → Closed outer → All Closed inner → is_shared (outer ∷ inner) ≡ false → (c : ℤ) (cs : List ℤ)
-      → isMisplaced outer inner c cs ≡ (any (λ r. not (stands r outer)) inner || anyTwo nested inner || any (λ d. not (isOpposite c d)) cs)
-  unfolding isMisplaced is_shared
+      → is_misplaced_of outer inner c cs ≡ (any (λ r. not (stands r outer)) inner || any_two nested inner || any (λ d. not (is_opposite c d)) cs)
+  unfolding is_misplaced_of is_shared
   corners-tell {outer} {inner} k ks h c cs =
       let w = two-parts meet outer inner h in
-      ap₂ (λ (x y : Bool). x || y || any (λ d. not (isOpposite c d)) cs) (outside-tells k ks w.0) (nested-tells ks w.1)
+      ap₂ (λ (x y : Bool). x || y || any (λ d. not (is_opposite c d)) cs) (outside_tells k ks w.0) (nested_tells ks w.1)

@@ -1,13 +1,13 @@
 -- Small polygons, worked out: a square with a courtyard, and what can be wrong with it.
 use Rattle.std.specs.Prelude.{ℕ, ◌≡◌, refl, Bool, true, false, List, [], ◌∷◌, map, pos}
-use Rattle.whole.specs.Lists.{lists-compute}
-use Rattle.space.specs.Space.{Point, space-computes}
+use Rattle.whole.specs.Lists.{lists_compute}
+use Rattle.space.specs.Space.{Point, space_computes}
 use Rattle.space.specs.declared.Axis.TheVariants.{Z}
-use Rattle.plane.specs.Plane.{plane-computes}
-use Rattle.normal.specs.Normal.{normal-computes}
-use Rattle.ring.specs.Polygon.{Polygon, ringsOf, turnedOver, polygon-computes}
-use Rattle.rays.specs.Inside.{inside-computes}
-use Rattle.holes.specs.Holes.{seen, componentOf, is_shared, isMisplaced, holes-compute}
+use Rattle.plane.specs.Plane.{plane_computes}
+use Rattle.normal.specs.Normal.{normal_computes}
+use Rattle.ring.specs.Polygon.{Polygon, rings_of, turned_over, polygon_computes}
+use Rattle.rays.specs.Inside.{inside_computes}
+use Rattle.holes.specs.Holes.{seen, component_of, is_shared, is_misplaced_of, holes_compute}
 
 abbrev flat : ℕ → ℕ → Point
 flat x y = record { x = pos x; y = pos y; z = pos 0 }
@@ -31,8 +31,8 @@ points =
 -- whether 0E fails, and whether 0F does, seen from above
 abbrev told : Polygon → Bool × Bool
 told p = (
-  is_shared (map (seen Z points) (ringsOf p)),
-  isMisplaced (seen Z points p.outer) (map (seen Z points) p.inner) (componentOf Z points p.outer) (map (componentOf Z points) p.inner),
+  is_shared (map (seen Z points) (rings_of p)),
+  is_misplaced_of (seen Z points p.outer) (map (seen Z points) p.inner) (component_of Z points p.outer) (map (component_of Z points) p.inner),
 )
 
 -- the square with some inner rings
@@ -43,15 +43,15 @@ abbrev hole : List ℕ
 hole = 4 ∷ 7 ∷ 6 ∷ 5 ∷ 4 ∷ []
 
 -- no inner ring; a courtyard, and turned over; two of them
-pub sound : map told (square [] ∷ square (hole ∷ []) ∷ turnedOver (square (hole ∷ [])) ∷ square (hole ∷ (20 ∷ 23 ∷ 22 ∷ 21 ∷ 20 ∷ []) ∷ []) ∷ [])
+pub sound : map told (square [] ∷ square (hole ∷ []) ∷ turned_over (square (hole ∷ [])) ∷ square (hole ∷ (20 ∷ 23 ∷ 22 ∷ 21 ∷ 20 ∷ []) ∷ []) ∷ [])
     ≡ (false, false) ∷ (false, false) ∷ (false, false) ∷ (false, false) ∷ []
-unfolding lists-compute space-computes plane-computes normal-computes polygon-computes inside-computes holes-compute
+unfolding lists_compute space_computes plane_computes normal_computes polygon_computes inside_computes holes_compute
 sound = refl
 
 -- 0E: a corner in common; a corner on an edge; an edge across an edge; one ring twice
-pub sharing : map (λ p. is_shared (map (seen Z points) (ringsOf p))) (square ((0 ∷ 7 ∷ 6 ∷ 5 ∷ 0 ∷ []) ∷ []) ∷ square ((24 ∷ 6 ∷ 25 ∷ 24 ∷ []) ∷ []) ∷ square ((4 ∷ 7 ∷ 11 ∷ 8 ∷ 4 ∷ []) ∷ []) ∷ square (hole ∷ hole ∷ []) ∷ [])
+pub sharing : map (λ p. is_shared (map (seen Z points) (rings_of p))) (square ((0 ∷ 7 ∷ 6 ∷ 5 ∷ 0 ∷ []) ∷ []) ∷ square ((24 ∷ 6 ∷ 25 ∷ 24 ∷ []) ∷ []) ∷ square ((4 ∷ 7 ∷ 11 ∷ 8 ∷ 4 ∷ []) ∷ []) ∷ square (hole ∷ hole ∷ []) ∷ [])
     ≡ true ∷ true ∷ true ∷ true ∷ []
-unfolding lists-compute space-computes plane-computes normal-computes polygon-computes inside-computes holes-compute
+unfolding lists_compute space_computes plane_computes normal_computes polygon_computes inside_computes holes_compute
 sharing = refl
 
 -- 0F: beside the outer ring; around it; a hole in a hole, either way named; turned as the outer ring; stood on end, so that its component is zero
@@ -63,7 +63,7 @@ pub misplacing : map told (
     square ((4 ∷ 5 ∷ 6 ∷ 7 ∷ 4 ∷ []) ∷ []) ∷
     square ((4 ∷ 5 ∷ 26 ∷ 27 ∷ 4 ∷ []) ∷ []) ∷
     []) ≡ (false, true) ∷ (false, true) ∷ (false, true) ∷ (false, true) ∷ (false, true) ∷ (false, true) ∷ []
-unfolding lists-compute space-computes plane-computes normal-computes polygon-computes inside-computes holes-compute
+unfolding lists_compute space_computes plane_computes normal_computes polygon_computes inside_computes holes_compute
 misplacing = refl
 
 -- the shape of a U: a hole in its arm is sound, one in the gap between its arms is outside it
@@ -71,5 +71,5 @@ abbrev horseshoe : List (List ℕ) → Polygon
 horseshoe inner = record { outer = 0 ∷ 1 ∷ 2 ∷ 16 ∷ 17 ∷ 18 ∷ 19 ∷ 3 ∷ 0 ∷ []; inner = inner }
 
 pub between : map told (horseshoe ((28 ∷ 31 ∷ 30 ∷ 29 ∷ 28 ∷ []) ∷ []) ∷ horseshoe ((20 ∷ 23 ∷ 22 ∷ 21 ∷ 20 ∷ []) ∷ []) ∷ []) ≡ (false, false) ∷ (false, true) ∷ []
-unfolding lists-compute space-computes plane-computes normal-computes polygon-computes inside-computes holes-compute
+unfolding lists_compute space_computes plane_computes normal_computes polygon_computes inside_computes holes_compute
 between = refl

@@ -3,11 +3,11 @@ use Rattle.std.specs.Prelude.{ℕ, ◌<◌, ◌≡◌, true, length, pos}
 use Rattle.std.proofs.Common.{◌∙◌}
 use mathlib.Core.List.{List, []}
 use Rattle.std.proofs.Math.ListN.{get_or}
-use Rattle.whole.specs.Lists.{any, steps, leastIndex}
+use Rattle.whole.specs.Lists.{any, steps, least_index}
 use Rattle.whole.specs.laws.Index.{any-holds, holds-any, two-holds, holds-two}
 use Rattle.plane.specs.Plane.{Spot, Segment, share}
 use Rattle.plane.specs.held.Edges.{spot}
-use Rattle.plane.specs.laws.Common.{CommonPoint, share-is}
+use Rattle.plane.specs.laws.Common.{CommonPoint, share_is}
 use Rattle.rays.specs.laws.Turned.{share-sym}
 use Rattle.holes.specs.Holes.{meet, is_shared}
 use Rattle.holes.specs.laws.Some.{any_swap}
@@ -26,7 +26,7 @@ pub record Meeting (r s : List Spot) : Type 0 where
   pub first : ℕ
   pub second : ℕ
   pub first-there : first < length (steps r)
-  pub second-there : second < length (steps s)
+  pub second_there : second < length (steps s)
   pub point : CommonPoint (get_or (steps r) first nowhere) (get_or (steps s) second nowhere)
 
 module _ (r s : List Spot) where
@@ -34,18 +34,18 @@ module _ (r s : List Spot) where
   unfolding meet
   met h =
       let x = any-holds (λ e. any (share e) (steps s)) nowhere (steps r) h in
-      let i = leastIndex (λ e. any (share e) (steps s)) (steps r) in
+      let i = least_index (λ e. any (share e) (steps s)) (steps r) in
       let e = get_or (steps r) i nowhere in
       let y = any-holds (share e) nowhere (steps s) x.1 in
-      let j = leastIndex (share e) (steps s) in
-      record { first = i; second = j; first-there = x.0; second-there = y.0; point = (share-is e (get_or (steps s) j nowhere)).0 y.1 }
+      let j = least_index (share e) (steps s) in
+      record { first = i; second = j; first-there = x.0; second_there = y.0; point = (share_is e (get_or (steps s) j nowhere)).0 y.1 }
 
   meets : Meeting r s → meet r s ≡ true
   unfolding meet
   meets m =
       let e = get_or (steps r) m.first nowhere in
       holds-any (λ e. any (share e) (steps s)) nowhere (steps r) m.first
-      (m.first-there, holds-any (share e) nowhere (steps s) m.second (m.second-there, (share-is e (get_or (steps s) m.second nowhere)).1 m.point))
+      (m.first-there, holds-any (share e) nowhere (steps s) m.second (m.second_there, (share_is e (get_or (steps s) m.second nowhere)).1 m.point))
 
 -- two rings of a polygon, one before the other, have such edges
 pub record SharedPoint (rings : List (List Spot)) : Type 0 where
@@ -57,14 +57,14 @@ pub record SharedPoint (rings : List (List Spot)) : Type 0 where
 
 -- 0E says just that
 module _ (rings : List (List Spot)) where
-  pub shared-is : is_shared rings ≡ true → SharedPoint rings
+  pub shared_is : is_shared rings ≡ true → SharedPoint rings
   unfolding is_shared
-  shared-is h =
+  shared_is h =
       let t = two-holds meet [] rings h in
       record { low = t.low; high = t.high; order = t.order; within = t.within; meeting = met (get_or rings t.low []) (get_or rings t.high []) t.related }
 
-  pub is-shared : SharedPoint rings → is_shared rings ≡ true
+  pub is_shared_lem : SharedPoint rings → is_shared rings ≡ true
   unfolding is_shared
-  is-shared p =
+  is_shared_lem p =
       holds-two meet [] rings
       (record { low = p.low; high = p.high; order = p.order; within = p.within; related = meets (get_or rings p.low []) (get_or rings p.high []) p.meeting })

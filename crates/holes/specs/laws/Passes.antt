@@ -5,18 +5,18 @@ use Rattle.std.specs.Prelude.{◌≡◌, refl, Bool, List, [], ◌∷◌, map, l
 use Rattle.std.proofs.Math.Path.{sym, ap}
 use Rattle.std.proofs.Common.{◌∙◌, subst}
 use Rattle.std.proofs.Math.Bool.{true, false}
-use Rattle.whole.specs.Lists.{any, anyTwo, steps}
+use Rattle.whole.specs.Lists.{any, any_two, steps}
 use Rattle.whole.specs.held.Spans.{span}
-use Rattle.whole.specs.laws.Search.{any_here, any_next, any-end}
+use Rattle.whole.specs.laws.Search.{any_here, any_next, any_end}
 use Rattle.plane.specs.Plane.{Spot, Segment}
 use Rattle.plane.specs.held.Edges.{Ends}
 use Rattle.space.specs.held.Points.{Coords}
-use Rattle.fan.specs.held.Fan.{spotIn}
+use Rattle.fan.specs.held.Fan.{spot_in}
 use Rattle.rays.specs.laws.Seen.{close_at}
 use Rattle.rays.specs.laws.Counted.{edges-length, edges_at}
 
 -- the edge between two points has coordinates
-pub ends_of : (flat : List ℤ) → Coords flat → (j k a b : ℕ) {e : Segment} → e ≡ (spotIn flat j k a, spotIn flat j k b) → Ends e
+pub ends_of : (flat : List ℤ) → Coords flat → (j k a b : ℕ) {e : Segment} → e ≡ (spot_in flat j k a, spot_in flat j k b) → Ends e
 ends_of flat h j k a b q = subst Ends (sym q) (record { from = close_at flat h j k a; to = close_at flat h j k b })
 
 -- ---- the edges between the places of a ring's entries
@@ -45,7 +45,7 @@ module _ (t : Segment → Bool) (at : ℕ → Spot) (ring : List ℕ) where
   }
 
   pub left_end : {i : ℕ} → Left i → length ring ≤ i + 1 → false ≡ any t es
-  left_end {i} l h = sym (any-end t es i (omega (arith, edges-length at ring, l.within))) ∙ l.same
+  left_end {i} l h = sym (any_end t es i (omega (arith, edges-length at ring, l.within))) ∙ l.same
 
 -- ---- rings, by their numbers from one up to another
 module _ {A : Type 0} (f : ℕ → A) where
@@ -53,9 +53,9 @@ module _ {A : Type 0} (f : ℕ → A) where
   unfolding span
   span-next i to h = let e : to - i ≡ suc (to - (i + 1)) = omega arith in ap (span f i) e
 
-  pub span-end : (i to : ℕ) → to ≤ i → span f i (to - i) ≡ []
+  pub span_end : (i to : ℕ) → to ≤ i → span f i (to - i) ≡ []
   unfolding span
-  span-end i to h = let e : to - i ≡ 0 = omega arith in ap (span f i) e
+  span_end i to h = let e : to - i ≡ 0 = omega arith in ap (span f i) e
 
   -- one of which a test holds
   module _ (t : A → Bool) (from to : ℕ) where
@@ -78,32 +78,32 @@ module _ {A : Type 0} (f : ℕ → A) where
 
     pub rest_end : {i : ℕ} → Rest i → to ≤ i → false ≡ any t (span f from (to - from))
     unfolding any
-    rest_end {i} r h = sym (ap (any t) (span-end i to h)) ∙ r.same
+    rest_end {i} r h = sym (ap (any t) (span_end i to h)) ∙ r.same
 
   -- two that are so related
   module _ (t : A → A → Bool) (from to : ℕ) where
     pub record Rests (i : ℕ) : Type 0 where
       pub low : from ≤ i
-      pub same : anyTwo t (span f i (to - i)) ≡ anyTwo t (span f from (to - from))
+      pub same : any_two t (span f i (to - i)) ≡ any_two t (span f from (to - from))
 
     pub rests-all : Rests from
     rests-all = record { low = omega arith; same = refl }
 
-    two-of : (i : ℕ) → i < to → {b : Bool} → any (t (f i)) (span f (i + 1) (to - (i + 1))) ≡ b → anyTwo t (span f i (to - i)) ≡ elim b [ true ↦ true | false ↦ anyTwo t (span f (i + 1) (to - (i + 1))) ]
-    unfolding anyTwo
-    two-of i h e = ap (anyTwo t) (span-next i to h) ∙ ap (λ (b : Bool). elim b [ true ↦ true | false ↦ anyTwo t (span f (i + 1) (to - (i + 1))) ]) e
+    two-of : (i : ℕ) → i < to → {b : Bool} → any (t (f i)) (span f (i + 1) (to - (i + 1))) ≡ b → any_two t (span f i (to - i)) ≡ elim b [ true ↦ true | false ↦ any_two t (span f (i + 1) (to - (i + 1))) ]
+    unfolding any_two
+    two-of i h e = ap (any_two t) (span-next i to h) ∙ ap (λ (b : Bool). elim b [ true ↦ true | false ↦ any_two t (span f (i + 1) (to - (i + 1))) ]) e
 
-    pub rests-here : {i : ℕ} → Rests i → i < to → any (t (f i)) (span f (i + 1) (to - (i + 1))) ≡ true → true ≡ anyTwo t (span f from (to - from))
+    pub rests-here : {i : ℕ} → Rests i → i < to → any (t (f i)) (span f (i + 1) (to - (i + 1))) ≡ true → true ≡ any_two t (span f from (to - from))
     rests-here {i} r h e = sym (two-of i h e) ∙ r.same
 
     pub rests-next : {i : ℕ} → Rests i → i < to → any (t (f i)) (span f (i + 1) (to - (i + 1))) ≡ false → Rests (i + 1)
     rests-next {i} r h e = record { low = omega (arith, r.low); same = sym (two-of i h e) ∙ r.same }
 
-    pub rests-end : {i : ℕ} → Rests i → to ≤ i → false ≡ anyTwo t (span f from (to - from))
-    unfolding anyTwo
-    rests-end {i} r h = sym (ap (anyTwo t) (span-end i to h)) ∙ r.same
+    pub rests-end : {i : ℕ} → Rests i → to ≤ i → false ≡ any_two t (span f from (to - from))
+    unfolding any_two
+    rests-end {i} r h = sym (ap (any_two t) (span_end i to h)) ∙ r.same
 
     -- the last has none after it
-    pub rests-last : {i : ℕ} → Rests i → i < to → to ≤ i + 1 → false ≡ anyTwo t (span f from (to - from))
-    unfolding any anyTwo
-    rests-last {i} r l h = sym (two-of i l (ap (any (t (f i))) (span-end (i + 1) to h)) ∙ ap (anyTwo t) (span-end (i + 1) to h)) ∙ r.same
+    pub rests-last : {i : ℕ} → Rests i → i < to → to ≤ i + 1 → false ≡ any_two t (span f from (to - from))
+    unfolding any any_two
+    rests-last {i} r l h = sym (two-of i l (ap (any (t (f i))) (span_end (i + 1) to h)) ∙ ap (any_two t) (span_end (i + 1) to h)) ∙ r.same

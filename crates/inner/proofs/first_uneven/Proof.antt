@@ -7,9 +7,9 @@ use Prim.Native.Nat.{ℕ, ◌≤◌}
 use lib.ListN.{get_or}
 use borrow.Author.Rules.{rules}
 use Rattle.space.specs.Space.{places}
-use Rattle.space.specs.held.Points.{points_of, asPoint}
-use Rattle.even.specs.Even.{unevenAt}
-use Rattle.inner.specs.laws.Tables.{order, start-few, entries-are, entries-listed, entries-some}
+use Rattle.space.specs.held.Points.{points_of, as_point}
+use Rattle.even.specs.Even.{uneven_at}
+use Rattle.inner.specs.laws.Tables.{order, start-few, entries_are, entries-listed, entries-some}
 use Rattle.inner.proofs.first_uneven.Statement.{statement}
 use Rattle.inner.proofs.first_uneven.Tie as tie
 
@@ -67,7 +67,7 @@ first-uneven-requires c κs =
 returns : tie.Need-returns
 returns c =
     let s = c.before.before.before.before.before in
-    c.first-uneven.ensures ∙ ap (λ (l : List ℕ). unevenAt s.args.tolerance (asPoint s.args.n) (places (points_of s.args.points.now) l)) (entries-are s.requires.1.0.rings s.requires.1.0.some)
+    c.first-uneven.ensures ∙ ap (λ (l : List ℕ). uneven_at s.args.tolerance (as_point s.args.n) (places (points_of s.args.points.now) l)) (entries_are s.requires.1.0.rings s.requires.1.0.some)
 
 pub first-uneven-spec : {M : Type 1} → statement M
 first-uneven-spec =

@@ -4,9 +4,9 @@ use native.Mathlib.Omega.{arith}
 use mathlib.Core.Path.{sym, ap, ◌∙◌}
 use Rattle.space.specs.held.Points.{points_of}
 use Rattle.ring.specs.Polygon.{Polygon}
-use Rattle.polygon.specs.held.Findings.{keptFinding}
+use Rattle.polygon.specs.held.Findings.{kept_finding}
 use Rattle.inner.specs.Finding.{finding, part}
-use Rattle.inner.specs.laws.Tables.{one-is}
+use Rattle.inner.specs.laws.Tables.{one_is}
 use Rattle.inner.proofs.look_at.Statement.{statement}
 use Rattle.inner.proofs.look_at.Tie as tie
 
@@ -20,8 +20,8 @@ returns : tie.Need-returns
 returns c =
     let s = c.before.before in
     let table = points_of s.args.points.now in
-    let e = sym (one-is s.requires.1.0.rings s.requires.1.0.some c.before.if1.true) in
-    (c.look-at-one.ensures.0 ∙ ap (λ (p : Polygon). keptFinding (finding s.args.tolerance table p)) e, c.look-at-one.ensures.1 ∙ ap (part table) e)
+    let e = sym (one_is s.requires.1.0.rings s.requires.1.0.some c.before.if1.true) in
+    (c.look-at-one.ensures.0 ∙ ap (λ (p : Polygon). kept_finding (finding s.args.tolerance table p)) e, c.look-at-one.ensures.1 ∙ ap (part table) e)
 
 look-at-several-requires : tie.Need-look-at-several-requires
 look-at-several-requires c κs = c.before.requires

@@ -2,9 +2,9 @@
 use mathlib.Core.Path.{◌∙◌, sym, ap}
 use borrow.Author.Rules.{rules}
 use Rattle.space.specs.held.Points.{points_of}
-use Rattle.ring.specs.held.Rings.{ringAt}
-use Rattle.polygon.specs.held.Findings.{keptFinding}
-use Rattle.inner.specs.laws.One.{one-ring, one-part}
+use Rattle.ring.specs.held.Rings.{ring_at}
+use Rattle.polygon.specs.held.Findings.{kept_finding}
+use Rattle.inner.specs.laws.One.{one_ring, one-part}
 use Rattle.inner.proofs.look_at_one.Statement.{statement}
 use Rattle.inner.proofs.look_at_one.Tie as tie
 
@@ -47,8 +47,8 @@ look-at-requires c κs = search rules
 returns : tie.Need-returns
 returns c =
     let a = c.before.before.before.before.before.args in
-    let ring = ringAt a.entries.now a.starts.now a.q in
-    (c.look_at.ensures.0 ∙ ap keptFinding (sym (one-ring (points_of a.points.now) ring a.tolerance)), c.look_at.ensures.1 ∙ sym (one-part (points_of a.points.now) ring))
+    let ring = ring_at a.entries.now a.starts.now a.q in
+    (c.look_at.ensures.0 ∙ ap kept_finding (sym (one_ring (points_of a.points.now) ring a.tolerance)), c.look_at.ensures.1 ∙ sym (one-part (points_of a.points.now) ring))
 
 pub look-at-one-spec : {M : Type 1} → statement M
 look-at-one-spec =

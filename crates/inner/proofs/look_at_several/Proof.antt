@@ -5,13 +5,13 @@ use mathlib.Core.List.{List}
 use Rattle.whole.specs.Lists.{sum_of}
 use Rattle.space.specs.Space.{Point}
 use Rattle.space.specs.held.Points.{points_of}
-use Rattle.ring.specs.Polygon.{Polygon, ringsOf}
-use Rattle.ring.specs.held.Rings.{polygonOf}
+use Rattle.ring.specs.Polygon.{Polygon, rings_of}
+use Rattle.ring.specs.held.Rings.{polygon_of}
 use Rattle.volume.specs.Part.{part as ringPart}
-use Rattle.polygon.specs.held.Findings.{keptFinding}
+use Rattle.polygon.specs.held.Findings.{kept_finding}
 use Rattle.inner.specs.Finding.{part}
-use Rattle.inner.specs.laws.Rows.{ringsFinding}
-use Rattle.inner.specs.laws.Tables.{rings-are, part-back}
+use Rattle.inner.specs.laws.Rows.{rings_finding}
+use Rattle.inner.specs.laws.Tables.{rings_are, part-back}
 use Rattle.inner.proofs.Order.{kept-early, all_sound, kept-late}
 use Rattle.inner.proofs.look_at_several.Statement.{statement}
 use Rattle.inner.proofs.look_at_several.Tie as tie
@@ -21,19 +21,19 @@ abbrev table : tie.Start → List Point
 table s = points_of s.args.points.now
 
 abbrev polygon : tie.Start → Polygon
-polygon s = polygonOf s.args.entries.now s.args.starts.now s.args.from s.args.to
+polygon s = polygon_of s.args.entries.now s.args.starts.now s.args.from s.args.to
 
 -- ---- what the rings told one by one
-kept-is : (c : tie.After-look-at-rings) → let s = c.before in c.look-at-rings.result.kept ≡ keptFinding (ringsFinding (table s) 0 (ringsOf (polygon s)))
-kept-is c =
+kept_is : (c : tie.After-look-at-rings) → let s = c.before in c.look-at-rings.result.kept ≡ kept_finding (rings_finding (table s) 0 (rings_of (polygon s)))
+kept_is c =
     let s = c.before in
-    c.look-at-rings.ensures.0 ∙ ap (λ (l : List (List ℕ)). keptFinding (ringsFinding (table s) 0 l)) (rings-are s.requires.1.0.rings s.requires.1.0.some)
+    c.look-at-rings.ensures.0 ∙ ap (λ (l : List (List ℕ)). kept_finding (rings_finding (table s) 0 l)) (rings_are s.requires.1.0.rings s.requires.1.0.some)
 
-part-is : (c : tie.After-look-at-rings) → let s = c.before in c.look-at-rings.result.part ≡ part (table s) (polygon s)
+part_is : (c : tie.After-look-at-rings) → let s = c.before in c.look-at-rings.result.part ≡ part (table s) (polygon s)
 unfolding part
-part-is c =
+part_is c =
     let s = c.before in
-    c.look-at-rings.ensures.1 ∙ ap (λ (l : List (List ℕ)). sum_of (ringPart (table s)) l) (rings-are s.requires.1.0.rings s.requires.1.0.some)
+    c.look-at-rings.ensures.1 ∙ ap (λ (l : List (List ℕ)). sum_of (ringPart (table s)) l) (rings_are s.requires.1.0.rings s.requires.1.0.some)
 
 -- ---- the needs
 look-at-rings-requires : tie.Need-look-at-rings-requires
@@ -42,17 +42,17 @@ look-at-rings-requires c κs = let s = c in (s.requires.0, s.requires.1.0)
 returns : tie.Need-returns
 returns c =
     let s = c.before.before.before in
-    (kept-early s.args.tolerance (table s) (polygon s) (kept-is c.before.before) c.if1.true, part-back s.requires.1.0.rings s.requires.1.0.some s.requires.0 (part-is c.before.before))
+    (kept-early s.args.tolerance (table s) (polygon s) (kept_is c.before.before) c.if1.true, part-back s.requires.1.0.rings s.requires.1.0.some s.requires.0 (part_is c.before.before))
 
 last-three-requires : tie.Need-last-three-requires
 last-three-requires c κs =
     let s = c.before.before.before in
-    (s.requires.0, (s.requires.1.0, (s.requires.1.1, all_sound s.args.tolerance (table s) (polygon s) (kept-is c.before.before) c.if1.false)))
+    (s.requires.0, (s.requires.1.0, (s.requires.1.1, all_sound s.args.tolerance (table s) (polygon s) (kept_is c.before.before) c.if1.false)))
 
 returns-2 : tie.Need-returns-2
 returns-2 c =
     let s = c.before.before.before.before in
-    (kept-late s.args.tolerance (table s) (polygon s) (kept-is c.before.before.before) c.before.if1.false c.last-three.ensures, part-back s.requires.1.0.rings s.requires.1.0.some s.requires.0 (part-is c.before.before.before))
+    (kept-late s.args.tolerance (table s) (polygon s) (kept_is c.before.before.before) c.before.if1.false c.last-three.ensures, part-back s.requires.1.0.rings s.requires.1.0.some s.requires.0 (part_is c.before.before.before))
 
 pub look-at-several-spec : {M : Type 1} → statement M
 look-at-several-spec =

@@ -7,19 +7,19 @@ use Rattle.std.proofs.Math.Option
 use Rattle.std.proofs.Math.Option.{Option, none, some}
 use Rattle.whole.specs.laws.Solve.{k, ◌⊕◌, ◌≔◌}
 use Rattle.whole.specs.laws.Solve.{ring as solve}
-use Rattle.whole.specs.Lists.{given, first, any, anyTwo, sum_of}
+use Rattle.whole.specs.Lists.{given, first, any, any_two, sum_of}
 use Rattle.space.specs.Space.{Point, places}
 use Rattle.normal.specs.Normal.{normal}
-use Rattle.even.specs.Even.{isUneven, unevenAt}
-use Rattle.ring.specs.Polygon.{one, all, ringsOf, entriesOf}
+use Rattle.even.specs.Even.{is_uneven, uneven_at}
+use Rattle.ring.specs.Polygon.{one, all, rings_of, entries_from}
 use Rattle.volume.specs.Part.{part as ringPart}
-use Rattle.holes.specs.Holes.{is_shared, isMisplaced}
+use Rattle.holes.specs.Holes.{is_shared, is_misplaced_of}
 use Rattle.polygon.specs.declared.Finding.{Finding}
 use Rattle.polygon.specs.declared.Finding.TheVariants.{Sound, Uneven}
 use Rattle.polygon.specs.Ring as ring
-use Rattle.polygon.specs.Ring.{ringRows}
+use Rattle.polygon.specs.Ring.{ring_rows}
 use Rattle.polygon.specs.laws.Rows.{first-after}
-use Rattle.inner.specs.Finding.{later, ringsRows, finding, part}
+use Rattle.inner.specs.Finding.{later, rings_rows, finding, part}
 use Rattle.inner.specs.laws.Rows.{later-none}
 
 -- positions in the first ring are those of the ring
@@ -38,20 +38,20 @@ none_more : (z : ℤ) → z +ℤ pos 0 ≡ z
 none_more = solve 1 (λ z. z ⊕ k (pos 0) ≔ z) tt
 
 module _ (points : List Point) (r : List ℕ) where
-  rows-one : ringsRows points 0 (r ∷ []) ≡ ringRows points r
-  unfolding ringsRows
-  rows-one = append-nil (map (Option.map (later 0)) (ringRows points r)) ∙ first_rows (ringRows points r)
+  rows-one : rings_rows points 0 (r ∷ []) ≡ ring_rows points r
+  unfolding rings_rows
+  rows-one = append-nil (map (Option.map (later 0)) (ring_rows points r)) ∙ first_rows (ring_rows points r)
 
-  pub one-ring : (tolerance : ℕ) → finding tolerance points (one r) ≡ ring.finding tolerance points r
-  unfolding finding ring.finding one ringsOf entriesOf all is_shared isMisplaced any anyTwo given
-  one-ring tolerance =
+  pub one_ring : (tolerance : ℕ) → finding tolerance points (one r) ≡ ring.finding tolerance points r
+  unfolding finding ring.finding one rings_of entries_from all is_shared is_misplaced_of any any_two given
+  one_ring tolerance =
       let n = normal (places points r) in
-      let row : List Point → Option Finding = λ ps. given (isUneven tolerance n ps) (Uneven (unevenAt tolerance n ps)) in
+      let row : List Point → Option Finding = λ ps. given (is_uneven tolerance n ps) (Uneven (uneven_at tolerance n ps)) in
       (λ i. first Sound (rows-one i ++ row (places points (append-nil r i)) ∷ none ∷ none ∷ []))
-      ∙ first-after Sound (ringRows points r) (row (places points r) ∷ none ∷ none ∷ [])
-      ∙ ap (λ (f : Finding). first f (ringRows points r)) (past (isUneven tolerance n (places points r)) (Uneven (unevenAt tolerance n (places points r))))
-      ∙ sym (first-after Sound (ringRows points r) (row (places points r) ∷ []))
+      ∙ first-after Sound (ring_rows points r) (row (places points r) ∷ none ∷ none ∷ [])
+      ∙ ap (λ (f : Finding). first f (ring_rows points r)) (past (is_uneven tolerance n (places points r)) (Uneven (uneven_at tolerance n (places points r))))
+      ∙ sym (first-after Sound (ring_rows points r) (row (places points r) ∷ []))
 
   pub one-part : part points (one r) ≡ ringPart points r
-  unfolding part one ringsOf sum_of
+  unfolding part one rings_of sum_of
   one-part = none_more (ringPart points r)

@@ -5,7 +5,7 @@ use mathlib.Core.Path.{◌≡◌, sym}
 use borrow.Author.Rules.{rules}
 use lib.ListN.{length, drop}
 use Rattle.lines.specs.Lines.{lines}
-use Rattle.lines.specs.laws.LineLaws.{feeds-few, count_none, count-last, count-part}
+use Rattle.lines.specs.laws.LineLaws.{feeds_few, count_none, count-last, count-part}
 use Rattle.lines.proofs.count_lines.Statement.{statement}
 use Rattle.lines.proofs.count_lines.Tie as tie
 
@@ -54,7 +54,7 @@ loop-again c =
     let from = c.before.before.before.before.loop.from in
     let to = c.before.before.part-end.result in
     let e = count-part s from to (omega arith) (omega arith) in
-    let f = feeds-few (to - from) (drop from s) in
+    let f = feeds_few (to - from) (drop from s) in
     (omega arith, (omega (arith, c.feeds-in.ensures), omega (arith, c.feeds-in.ensures)))
 
 returns-2 : tie.Need-returns-2 invariant-loop decreases-loop

@@ -6,7 +6,7 @@ use mathlib.Core.Logic.{⊎_elim}
 use borrow.Author.Rules.{rules}
 use lib.ListN.{length, drop}
 use Rattle.lines.specs.held.Offsets.{feeds}
-use Rattle.lines.specs.laws.LineLaws.{feeds-feed, feeds-byte, feeds-end}
+use Rattle.lines.specs.laws.LineLaws.{feeds_feed, feeds_byte, feeds_end}
 use Rattle.lines.proofs.feeds_in.Statement.{statement}
 use Rattle.lines.proofs.feeds_in.Tie as tie
 
@@ -37,12 +37,12 @@ loop-again c =
     let s = c.before.before.before.before.args.part.now in
     let h = c.before.before.loop-test.true in
     ⊎_elim
-    (λ w. (omega arith, (omega arith, omega (arith, feeds-feed s l.i h w.0.taken))))
-    (λ w. (omega arith, (omega arith, omega (arith, feeds-byte s l.i h w.0.left))))
+    (λ w. (omega arith, (omega arith, omega (arith, feeds_feed s l.i h w.0.taken))))
+    (λ w. (omega arith, (omega arith, omega (arith, feeds_byte s l.i h w.0.left))))
     c.if1.branch
 
 returns : tie.Need-returns invariant-loop decreases-loop
-returns c = omega (arith, feeds-end c.before.before.args.part.now c.before.loop.i c.loop-test.false)
+returns c = omega (arith, feeds_end c.before.before.args.part.now c.before.loop.i c.loop-test.false)
 
 pub feeds-in-spec : {M : Type 1} → statement M
 feeds-in-spec =

@@ -3,12 +3,12 @@ use Prim.Native.Nat.{◌-◌}
 use mathlib.Core.Path.{◌≡◌, refl, ◌∙◌}
 use borrow.Author.Rules.{rules}
 use lib.ListN.{length}
-use Rattle.lines.specs.held.Offsets.{lineEnd}
+use Rattle.lines.specs.held.Offsets.{line_end_of}
 use Rattle.lines.proofs.nearer.Statement.{statement}
 use Rattle.lines.proofs.nearer.Tie as tie
 
 abbrev invariant-loop : tie.invariant-loop
-invariant-loop stream from last i₀ i = lineEnd stream i ≡ lineEnd stream from
+invariant-loop stream from last i₀ i = line_end_of stream i ≡ line_end_of stream from
 
 abbrev decreases-loop : tie.decreases-loop
 decreases-loop stream from last i₀ i = length stream - i

@@ -3,13 +3,13 @@ use Rattle.std.specs.Prelude.{ℕ, ◌+◌, cond, List, [], ◌∷◌, eqb, leng
 use Rattle.lines.specs.Lines.{lines}
 
 -- the first of some lines
-unfoldable pub firstLine : List (List ℕ) → List ℕ
-firstLine [] = []
-firstLine (l ∷ ls) = l
+unfoldable pub first_line : List (List ℕ) → List ℕ
+first_line [] = []
+first_line (l ∷ ls) = l
 
 -- where the line that starts at an offset ends: the place of its line feed, or the stream's end
-unfoldable pub lineEnd : List ℕ → ℕ → ℕ
-lineEnd s from = from + length (firstLine (lines (drop from s)))
+unfoldable pub line_end_of : List ℕ → ℕ → ℕ
+line_end_of s from = from + length (first_line (lines (drop from s)))
 
 -- how many bytes are line feeds
 unfoldable pub feeds : List ℕ → ℕ

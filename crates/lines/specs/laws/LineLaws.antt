@@ -11,50 +11,50 @@ use Rattle.std.proofs.Math.ListN.{length, length-drop, drop_of_length-le}
 use Rattle.std.proofs.Math.Seq.{drop-cons}
 use Rattle.whole.specs.All.{All, none, more}
 use Rattle.whole.specs.laws.Bools.{or_left, or_right}
-use Rattle.lines.specs.Lines.{onFirst, putByte, lines, ended, joined}
-use Rattle.lines.specs.held.Offsets.{firstLine, lineEnd, feeds}
+use Rattle.lines.specs.Lines.{on_first, put_byte, lines, ended, joined}
+use Rattle.lines.specs.held.Offsets.{first_line, line_end_of, feeds}
 
 -- ---- the first line of a stream
 
-length-onFirst : (b : ℕ) (ls : List (List ℕ)) → length (firstLine (onFirst b ls)) ≡ suc (length (firstLine ls))
-unfolding onFirst firstLine
-length-onFirst b [] = refl
-length-onFirst b (l ∷ ls) = refl
+length-on_first : (b : ℕ) (ls : List (List ℕ)) → length (first_line (on_first b ls)) ≡ suc (length (first_line ls))
+unfolding on_first first_line
+length-on_first b [] = refl
+length-on_first b (l ∷ ls) = refl
 
-lines-feed : (s : List ℕ) (i : ℕ) → i < length s → get_or s i 0 ≡ 10 → lines (drop i s) ≡ [] ∷ lines (drop (suc i) s)
-unfolding lines putByte
-lines-feed s i h e = rw (drop-cons s i 0, lines, eq-eqb (get_or s i 0) 10 e)
+lines_feed : (s : List ℕ) (i : ℕ) → i < length s → get_or s i 0 ≡ 10 → lines (drop i s) ≡ [] ∷ lines (drop (suc i) s)
+unfolding lines put_byte
+lines_feed s i h e = rw (drop-cons s i 0, lines, eq-eqb (get_or s i 0) 10 e)
 
-lines-byte : (s : List ℕ) (i : ℕ) → i < length s → (get_or s i 0 ≡ 10 → ⊥) → lines (drop i s) ≡ onFirst (get_or s i 0) (lines (drop (suc i) s))
-unfolding lines putByte
-lines-byte s i h n = rw (drop-cons s i 0, lines, ne_eqb (get_or s i 0) 10 n)
+lines_byte : (s : List ℕ) (i : ℕ) → i < length s → (get_or s i 0 ≡ 10 → ⊥) → lines (drop i s) ≡ on_first (get_or s i 0) (lines (drop (suc i) s))
+unfolding lines put_byte
+lines_byte s i h n = rw (drop-cons s i 0, lines, ne_eqb (get_or s i 0) 10 n)
 
 -- a stream that is not empty is its first line and the lines after it
 module _ (b : ℕ) where
-  onFirst-cut : (t : List ℕ) → (0 < length t → lines t ≡ take (length (firstLine (lines t))) t ∷ lines (drop (suc (length (firstLine (lines t)))) t))
-      → onFirst b (lines t) ≡ take (length (firstLine (onFirst b (lines t)))) (b ∷ t) ∷ lines (drop (suc (length (firstLine (onFirst b (lines t))))) (b ∷ t))
-  unfolding lines onFirst firstLine
-  onFirst-cut [] ih = refl
-  onFirst-cut (a ∷ t) ih = rw (length-onFirst b (lines (a ∷ t))) (ap (onFirst b) (ih (omega arith)))
+  on_first-cut : (t : List ℕ) → (0 < length t → lines t ≡ take (length (first_line (lines t))) t ∷ lines (drop (suc (length (first_line (lines t)))) t))
+      → on_first b (lines t) ≡ take (length (first_line (on_first b (lines t)))) (b ∷ t) ∷ lines (drop (suc (length (first_line (on_first b (lines t))))) (b ∷ t))
+  unfolding lines on_first first_line
+  on_first-cut [] ih = refl
+  on_first-cut (a ∷ t) ih = rw (length-on_first b (lines (a ∷ t))) (ap (on_first b) (ih (omega arith)))
 
-first-cut : (s : List ℕ) → 0 < length s → lines s ≡ take (length (firstLine (lines s))) s ∷ lines (drop (suc (length (firstLine (lines s)))) s)
-unfolding lines putByte onFirst firstLine
+first-cut : (s : List ℕ) → 0 < length s → lines s ≡ take (length (first_line (lines s))) s ∷ lines (drop (suc (length (first_line (lines s)))) s)
+unfolding lines put_byte on_first first_line
 first-cut [] h = absurd (omega arith)
 first-cut (b ∷ s) h = go (eqb b 10) (first-cut s)
   where
-    go : (c : Bool) → (0 < length s → lines s ≡ take (length (firstLine (lines s))) s ∷ lines (drop (suc (length (firstLine (lines s)))) s))
-        → putByte c b (lines s) ≡ take (length (firstLine (putByte c b (lines s)))) (b ∷ s) ∷ lines (drop (suc (length (firstLine (putByte c b (lines s))))) (b ∷ s))
+    go : (c : Bool) → (0 < length s → lines s ≡ take (length (first_line (lines s))) s ∷ lines (drop (suc (length (first_line (lines s)))) s))
+        → put_byte c b (lines s) ≡ take (length (first_line (put_byte c b (lines s)))) (b ∷ s) ∷ lines (drop (suc (length (first_line (put_byte c b (lines s))))) (b ∷ s))
     go true ih = refl
-    go false ih = onFirst-cut b s ih
+    go false ih = on_first-cut b s ih
 
-first_short : (s : List ℕ) → length (firstLine (lines s)) ≤ length s
-unfolding lines putByte firstLine
+first_short : (s : List ℕ) → length (first_line (lines s)) ≤ length s
+unfolding lines put_byte first_line
 first_short [] = omega arith
 first_short (b ∷ s) = go (eqb b 10) (first_short s)
   where
-    go : (c : Bool) → length (firstLine (lines s)) ≤ length s → length (firstLine (putByte c b (lines s))) ≤ length (b ∷ s)
+    go : (c : Bool) → length (first_line (lines s)) ≤ length s → length (first_line (put_byte c b (lines s))) ≤ length (b ∷ s)
     go true h = omega arith
-    go false h = omega (arith, length-onFirst b (lines s))
+    go false h = omega (arith, length-on_first b (lines s))
 
 -- ---- a line by its offsets, for a loop over the stream
 
@@ -66,27 +66,27 @@ cut_at s from n ls e =
     rw (a, b, ← drop-drop (suc n) from s) e
 
 module _ (s : List ℕ) (from : ℕ) where
-  pub end-above : from ≤ lineEnd s from
-  unfolding lineEnd
-  end-above = omega arith
+  pub end_above : from ≤ line_end_of s from
+  unfolding line_end_of
+  end_above = omega arith
 
-  pub end-inside : from ≤ length s → lineEnd s from ≤ length s
-  unfolding lineEnd
-  end-inside h =
-      let a : length (firstLine (lines (drop from s))) ≤ length (drop from s) = first_short (drop from s) in
+  pub end_inside : from ≤ length s → line_end_of s from ≤ length s
+  unfolding line_end_of
+  end_inside h =
+      let a : length (first_line (lines (drop from s))) ≤ length (drop from s) = first_short (drop from s) in
       let b : length (drop from s) ≡ length s - from = length-drop from s in
       omega arith
 
   -- the line that starts at an offset, and the lines after its line feed
-  pub line-cut : from < length s → lines (drop from s) ≡ take (lineEnd s from - from) (drop from s) ∷ lines (drop (lineEnd s from + 1) s)
-  unfolding lineEnd
+  pub line-cut : from < length s → lines (drop from s) ≡ take (line_end_of s from - from) (drop from s) ∷ lines (drop (line_end_of s from + 1) s)
+  unfolding line_end_of
   line-cut h =
       let d : length (drop from s) ≡ length s - from = length-drop from s in
-      cut_at s from (length (firstLine (lines (drop from s)))) (lines (drop from s)) (first-cut (drop from s) (omega arith))
+      cut_at s from (length (first_line (lines (drop from s)))) (lines (drop from s)) (first-cut (drop from s) (omega arith))
 
-  pub lines-done : length s ≤ from → lines (drop from s) ≡ []
+  pub lines_done : length s ≤ from → lines (drop from s) ≡ []
   unfolding lines
-  lines-done h = rw drop_of_length-le
+  lines_done h = rw drop_of_length-le
 
   pub lines-some : from < length s → 0 < length (lines (drop from s))
   lines-some h = omega (arith, ap length (line-cut h))
@@ -94,61 +94,61 @@ module _ (s : List ℕ) (from : ℕ) where
 -- ---- turns of the loop that looks for a line's end
 
 module _ (s : List ℕ) (i : ℕ) where
-  pub end-feed : i < length s → get_or s i 0 ≡ 10 → lineEnd s i ≡ i
-  unfolding lineEnd firstLine
-  end-feed h e = rw (lines-feed s i h e) (omega arith)
+  pub end_feed : i < length s → get_or s i 0 ≡ 10 → line_end_of s i ≡ i
+  unfolding line_end_of first_line
+  end_feed h e = rw (lines_feed s i h e) (omega arith)
 
-  pub end-byte : i < length s → (get_or s i 0 ≡ 10 → ⊥) → lineEnd s (i + 1) ≡ lineEnd s i
-  unfolding lineEnd
-  end-byte h n =
-      let a : length (firstLine (onFirst (get_or s i 0) (lines (drop (suc i) s)))) ≡ suc (length (firstLine (lines (drop (suc i) s)))) = length-onFirst (get_or s i 0) (lines (drop (suc i) s)) in
-      rw (lines-byte s i h n, add-one, a) (omega arith)
+  pub end_byte : i < length s → (get_or s i 0 ≡ 10 → ⊥) → line_end_of s (i + 1) ≡ line_end_of s i
+  unfolding line_end_of
+  end_byte h n =
+      let a : length (first_line (on_first (get_or s i 0) (lines (drop (suc i) s)))) ≡ suc (length (first_line (lines (drop (suc i) s)))) = length-on_first (get_or s i 0) (lines (drop (suc i) s)) in
+      rw (lines_byte s i h n, add-one, a) (omega arith)
 
-  pub end-past : length s ≤ i → lineEnd s i ≡ i
-  unfolding lineEnd firstLine
-  end-past h = rw (lines-done s i h) (omega arith)
+  pub end_past : length s ≤ i → line_end_of s i ≡ i
+  unfolding line_end_of first_line
+  end_past h = rw (lines_done s i h) (omega arith)
 
 -- a turn of the loop that looks for a line feed among some bytes
-pub end-turn : (s : List ℕ) (at i : ℕ) (found : Bool) → at + i < length s → (found ≡ false → lineEnd s (at + i) ≡ lineEnd s at)
-    → (found || eqb (get_or s (at + i) 0) 10) ≡ false → lineEnd s (at + (i + 1)) ≡ lineEnd s at
-end-turn s at i found h g e =
+pub end_turn : (s : List ℕ) (at i : ℕ) (found : Bool) → at + i < length s → (found ≡ false → line_end_of s (at + i) ≡ line_end_of s at)
+    → (found || eqb (get_or s (at + i) 0) 10) ≡ false → line_end_of s (at + (i + 1)) ≡ line_end_of s at
+end_turn s at i found h g e =
     let a : at + (i + 1) ≡ at + i + 1 = omega arith in
     let n : get_or s (at + i) 0 ≡ 10 → ⊥ = eqb-false (get_or s (at + i) 0) 10 (or_right found (eqb (get_or s (at + i) 0) 10) e) in
-    rw a (end-byte s (at + i) h n ∙ g (or_left found (eqb (get_or s (at + i) 0) 10) e))
+    rw a (end_byte s (at + i) h n ∙ g (or_left found (eqb (get_or s (at + i) 0) 10) e))
 
 -- ---- counting lines
 
 module _ (s : List ℕ) (i : ℕ) where
-  pub feeds-feed : i < length s → get_or s i 0 ≡ 10 → feeds (drop i s) ≡ feeds (drop (i + 1) s) + 1
+  pub feeds_feed : i < length s → get_or s i 0 ≡ 10 → feeds (drop i s) ≡ feeds (drop (i + 1) s) + 1
   unfolding feeds
-  feeds-feed h e = rw (add-one i, drop-cons s i 0, eq-eqb (get_or s i 0) 10 e) (omega arith)
+  feeds_feed h e = rw (add-one i, drop-cons s i 0, eq-eqb (get_or s i 0) 10 e) (omega arith)
 
-  pub feeds-byte : i < length s → (get_or s i 0 ≡ 10 → ⊥) → feeds (drop i s) ≡ feeds (drop (i + 1) s)
+  pub feeds_byte : i < length s → (get_or s i 0 ≡ 10 → ⊥) → feeds (drop i s) ≡ feeds (drop (i + 1) s)
   unfolding feeds
-  feeds-byte h n = rw (add-one i, drop-cons s i 0, ne_eqb (get_or s i 0) 10 n) (omega arith)
+  feeds_byte h n = rw (add-one i, drop-cons s i 0, ne_eqb (get_or s i 0) 10 n) (omega arith)
 
-  pub feeds-end : length s ≤ i → feeds (drop i s) ≡ 0
+  pub feeds_end : length s ≤ i → feeds (drop i s) ≡ 0
   unfolding feeds
-  feeds-end h = rw drop_of_length-le
+  feeds_end h = rw drop_of_length-le
 
-feed-few : (c : Bool) (m k : ℕ) → m ≤ k → cond c 1 0 + m ≤ suc k
-feed-few true m k h = omega arith
-feed-few false m k h = omega arith
+feed_few : (c : Bool) (m k : ℕ) → m ≤ k → cond c 1 0 + m ≤ suc k
+feed_few true m k h = omega arith
+feed_few false m k h = omega arith
 
-pub feeds-few : (k : ℕ) (s : List ℕ) → feeds (take k s) ≤ k
+pub feeds_few : (k : ℕ) (s : List ℕ) → feeds (take k s) ≤ k
 unfolding feeds
-feeds-few zero s = omega arith
-feeds-few (suc k) [] = omega arith
-feeds-few (suc k) (b ∷ s) = feed-few (eqb b 10) (feeds (take k s)) k (feeds-few k s)
+feeds_few zero s = omega arith
+feeds_few (suc k) [] = omega arith
+feeds_few (suc k) (b ∷ s) = feed_few (eqb b 10) (feeds (take k s)) k (feeds_few k s)
 
-length-many : (c : Bool) (b : ℕ) (ls : List (List ℕ)) → 0 < length ls → length (putByte c b ls) ≡ cond c 1 0 + length ls
-unfolding putByte onFirst
+length-many : (c : Bool) (b : ℕ) (ls : List (List ℕ)) → 0 < length ls → length (put_byte c b ls) ≡ cond c 1 0 + length ls
+unfolding put_byte on_first
 length-many true b ls h = omega arith
 length-many false b [] h = absurd (omega arith)
 length-many false b (l ∷ ls) h = omega arith
 
-one_line : (c : Bool) (b : ℕ) → length (putByte c b []) ≡ 1
-unfolding putByte onFirst
+one_line : (c : Bool) (b : ℕ) → length (put_byte c b []) ≡ 1
+unfolding put_byte on_first
 one_line true b = refl
 one_line false b = refl
 
@@ -189,7 +189,7 @@ abbrev pub NoFeed : List ℕ → Type 0
 NoFeed l = All (λ (b : ℕ). b ≡ 10 → ⊥) l
 
 pub lines-ended : (l rest : List ℕ) → NoFeed l → lines (ended l ++ rest) ≡ l ∷ lines rest
-unfolding lines putByte ended onFirst
+unfolding lines put_byte ended on_first
 lines-ended [] rest none = refl
 lines-ended (b ∷ l) rest (more n h) =
     let ih : lines (ended l ++ rest) ≡ l ∷ lines rest = lines-ended l rest h in
@@ -201,19 +201,19 @@ lines-joined [] none = refl
 lines-joined (l ∷ ls) (more h hs) = lines-ended l (joined ls) h ∙ ap (λ (k : List (List ℕ)). l ∷ k) (lines-joined ls hs)
 
 -- the lines of a stream hold no line feed
-first-no-feed : (b : ℕ) (ls : List (List ℕ)) → (b ≡ 10 → ⊥) → All NoFeed ls → All NoFeed (onFirst b ls)
-unfolding onFirst
-first-no-feed b [] n none = more (more n none) none
-first-no-feed b (l ∷ ls) n (more h hs) = more (more n h) hs
+first_no_feed : (b : ℕ) (ls : List (List ℕ)) → (b ≡ 10 → ⊥) → All NoFeed ls → All NoFeed (on_first b ls)
+unfolding on_first
+first_no_feed b [] n none = more (more n none) none
+first_no_feed b (l ∷ ls) n (more h hs) = more (more n h) hs
 
-pub lines-no-feed : (s : List ℕ) → All NoFeed (lines s)
-unfolding lines putByte
-lines-no-feed [] = none
-lines-no-feed (b ∷ s) = go (eqb b 10) refl (lines-no-feed s)
+pub lines_no_feed : (s : List ℕ) → All NoFeed (lines s)
+unfolding lines put_byte
+lines_no_feed [] = none
+lines_no_feed (b ∷ s) = go (eqb b 10) refl (lines_no_feed s)
   where
-    go : (c : Bool) → eqb b 10 ≡ c → All NoFeed (lines s) → All NoFeed (putByte c b (lines s))
+    go : (c : Bool) → eqb b 10 ≡ c → All NoFeed (lines s) → All NoFeed (put_byte c b (lines s))
     go true e h = more none h
-    go false e h = first-no-feed b (lines s) (eqb-false b 10 e) h
+    go false e h = first_no_feed b (lines s) (eqb-false b 10 e) h
 
 -- written one after another they take at most one byte more: the last line feed, if the stream has none
 pub length-ended : (l : List ℕ) → length (ended l) ≡ suc (length l)
@@ -225,11 +225,11 @@ unfolding joined
 length-joined l ls = length-append (ended l) (joined ls) ∙ ap (λ (n : ℕ). n + length (joined ls)) (length-ended l)
 
 pub joined-short : (s : List ℕ) → length (joined (lines s)) ≤ length s + 1
-unfolding lines putByte onFirst joined ended
+unfolding lines put_byte on_first joined ended
 joined-short [] = omega arith
 joined-short (b ∷ s) = go (eqb b 10) (lines s) (joined-short s)
   where
-    go : (c : Bool) (ls : List (List ℕ)) → length (joined ls) ≤ length s + 1 → length (joined (putByte c b ls)) ≤ length (b ∷ s) + 1
+    go : (c : Bool) (ls : List (List ℕ)) → length (joined ls) ≤ length s + 1 → length (joined (put_byte c b ls)) ≤ length (b ∷ s) + 1
     go true ls h = omega (arith, length-joined [] ls)
     go false [] h = omega arith
     go false (l ∷ ls) h = omega (arith, length-joined (b ∷ l) ls, length-joined l ls)
@@ -242,7 +242,7 @@ pub record Cut (s : List ℕ) (from e : ℕ) : Type 0 where
   pub inside : e ≤ length s
   pub first : lines (drop from s) ≡ take (e - from) (drop from s) ∷ lines (drop (e + 1) s)
 
-pub cut_of : (s : List ℕ) (from e : ℕ) → e ≡ lineEnd s from → from < length s → Cut s from e
+pub cut_of : (s : List ℕ) (from e : ℕ) → e ≡ line_end_of s from → from < length s → Cut s from e
 cut_of s from e p h =
     let a : from ≤ length s = omega arith in
-    rw p (record { above = end-above s from; inside = end-inside s from a; first = line-cut s from h })
+    rw p (record { above = end_above s from; inside = end_inside s from a; first = line-cut s from h })

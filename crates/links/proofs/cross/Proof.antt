@@ -5,12 +5,12 @@ use mathlib.Core.Path.{◌≡◌, refl}
 use lib.ListN.{length, length-set}
 use borrow.Author.Rules.{rules}
 use Rattle.words.specs.held.Words.{step_of, next_of}
-use Rattle.links.proofs.Crossings.{Noting, out_of, innOf, note-none, out-pair, inn-pair, crossed}
+use Rattle.links.proofs.Crossings.{Noting, out_of, inn_of, note-none, out_pair, inn_pair, crossed}
 use Rattle.links.proofs.cross.Statement.{statement}
 use Rattle.links.proofs.cross.Tie as tie
 
 abbrev invariant-loop : tie.invariant-loop
-invariant-loop words out₀ inn₀ i₀ out inn i = (i % 2 ≡ 0) × (i ≤ length words) × Noting step_of out_of words out i × Noting next_of innOf words inn i
+invariant-loop words out₀ inn₀ i₀ out inn i = (i % 2 ≡ 0) × (i ≤ length words) × Noting step_of out_of words out i × Noting next_of inn_of words inn i
 
 abbrev decreases-loop : tie.decreases-loop
 decreases-loop words out₀ inn₀ i₀ out inn i = length words - i
@@ -55,7 +55,7 @@ loop-again c = let l = c.before.before.before.before.before.before.before.before
     let h = c.before.before.before.before.before.before.before.before.loop-test.true in
     let a = c.before.before.before.across.ensures in
     let b = c.across2.ensures in
-    (omega (arith, l.0), omega arith, rw (b.0, a.0) (out-pair _ _ _ l.0 h l.2), rw (b.1, a.1) (inn-pair _ _ _ l.0 h l.3))
+    (omega (arith, l.0), omega arith, rw (b.0, a.0) (out_pair _ _ _ l.0 h l.2), rw (b.1, a.1) (inn_pair _ _ _ l.0 h l.3))
 
 returns : tie.Need-returns invariant-loop decreases-loop
 returns c = let l = c.before.loop.invariant in crossed _ _ _ _ l.2 l.3 l.0 (omega (arith, c.loop-test.false))

@@ -5,15 +5,15 @@ use mathlib.Core.List.{List}
 use native.Mathlib.Omega.{arith}
 use borrow.Author.Rules.{rules}
 use lib.ListN.{length}
-use Rattle.bits.specs.held.Bits.{marksOf}
-use Rattle.reach.specs.laws.Marks.{words-marks}
+use Rattle.bits.specs.held.Bits.{marks_of}
+use Rattle.reach.specs.laws.Marks.{words_marks}
 use Rattle.links.specs.held.Linking.{Cornered}
-use Rattle.links.proofs.Firsts.{Beginning, begin-none, begin-more, begin-done}
+use Rattle.links.proofs.Firsts.{Beginning, begin-none, begin_more, begin_done}
 use Rattle.links.proofs.pass.Statement.{statement}
 use Rattle.links.proofs.pass.Tie as tie
 
 abbrev invariant-loop : tie.invariant-loop
-invariant-loop words marks₀ seen₀ i₀ marks seen i = (length seen ≡ 16) × (length marks ≡ 16) × (i ≤ length words) × (i % 2 ≡ 0) × ((es : List ℕ) → Cornered es words → Beginning es words (marksOf seen) (marksOf marks) i)
+invariant-loop words marks₀ seen₀ i₀ marks seen i = (length seen ≡ 16) × (length marks ≡ 16) × (i ≤ length words) × (i % 2 ≡ 0) × ((es : List ℕ) → Cornered es words → Beginning es words (marks_of seen) (marks_of marks) i)
 
 abbrev decreases-loop : tie.decreases-loop
 decreases-loop words marks₀ seen₀ i₀ marks seen i = length words - i
@@ -79,12 +79,12 @@ loop-again c = let m = c.before.before.before.before.before in
       c.meet2.ensures.1,
       omega (arith, test.loop-test.true),
       omega (arith, at.invariant.3),
-      λ es f. begin-more es _ _ f at.invariant.3 test.loop-test.true _ _ _ _ _ _ (words-marks 16 _ at.invariant.0).size (words-marks 16 _ at.invariant.1) (words-marks 16 _ m.meet.ensures.0).size (words-marks 16 _ m.meet.ensures.1) (at.invariant.4 es f) (rw (k.key_of.ensures, m.before.before.node_of.ensures.0, m.before.node-of2.ensures.0) at m.meet.ensures.2) (rw (k.key_of.ensures, c.before.before.node-of3.ensures.0, c.before.node-of4.ensures.0) at c.meet2.ensures.2),
+      λ es f. begin_more es _ _ f at.invariant.3 test.loop-test.true _ _ _ _ _ _ (words_marks 16 _ at.invariant.0).size (words_marks 16 _ at.invariant.1) (words_marks 16 _ m.meet.ensures.0).size (words_marks 16 _ m.meet.ensures.1) (at.invariant.4 es f) (rw (k.key_of.ensures, m.before.before.node_of.ensures.0, m.before.node-of2.ensures.0) at m.meet.ensures.2) (rw (k.key_of.ensures, c.before.before.node-of3.ensures.0, c.before.node-of4.ensures.0) at c.meet2.ensures.2),
     )
 
 returns : tie.Need-returns invariant-loop decreases-loop
 returns c = let at = c.before.loop.invariant in
-    (at.1, λ es k. begin-done es _ _ _ _ k at.3 c.loop-test.false (at.4 es k))
+    (at.1, λ es k. begin_done es _ _ _ _ k at.3 c.loop-test.false (at.4 es k))
 
 pub pass_spec : {M : Type 1} → statement M
 pass_spec =

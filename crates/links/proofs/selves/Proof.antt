@@ -1,5 +1,5 @@
 -- `links::selves` meets its contract.
-use Rattle.links.proofs.Crossings.{selves-more, selves-done}
+use Rattle.links.proofs.Crossings.{selves_more, selves_done}
 use lib.ListN.{length, get_or}
 use borrow.Author.Rules.{rules}
 use native.Mathlib.Nat.{not-suc-le-zero}
@@ -33,10 +33,10 @@ loop-less : tie.Need-loop-smaller invariant-loop decreases-loop
 loop-less c = search rules
 
 loop-again : tie.Need-loop-preserved invariant-loop decreases-loop
-loop-again c = selves-more c.before.loop.t c.before.loop.i c.before.loop.invariant.0 c.before.loop.invariant.1 c.loop-test.true
+loop-again c = selves_more c.before.loop.t c.before.loop.i c.before.loop.invariant.0 c.before.loop.invariant.1 c.loop-test.true
 
 returns : tie.Need-returns invariant-loop decreases-loop
-returns c = selves-done c.before.loop.t c.before.loop.i c.before.loop.invariant.0 c.before.loop.invariant.1 c.loop-test.false
+returns c = selves_done c.before.loop.t c.before.loop.i c.before.loop.invariant.0 c.before.loop.invariant.1 c.loop-test.false
 
 pub selves-spec : {M : Type 1} → statement M
 selves-spec =

@@ -4,21 +4,21 @@ use native.Mathlib.Omega.{arith}
 use borrow.Author.Rules.{rules}
 use borrow.Author.Tests.{not-true, not-false}
 use lib.ListN.{length}
-use Rattle.bits.specs.held.Bits.{marksOf}
+use Rattle.bits.specs.held.Bits.{marks_of}
 use Rattle.reach.specs.held.Marking.{zeros}
-use Rattle.reach.specs.laws.Marks.{words-marks, marked-is, not-marked}
-use Rattle.links.proofs.Trails.{Walking, walk_none, walk-falls, walk_more, walk-done}
+use Rattle.reach.specs.laws.Marks.{words_marks, marked_is, not_marked}
+use Rattle.links.proofs.Trails.{Walking, walk_none, walk_falls, walk_more, walk_done}
 use Rattle.links.proofs.walk.Statement.{statement}
 use Rattle.links.proofs.walk.Tie as tie
 
 abbrev invariant-loop : tie.invariant-loop
-invariant-loop out inn marks₀ from to p₀ c₀ marks p c = (length marks ≡ 16) × Walking out inn (marksOf marks₀) to (marksOf marks) p c
+invariant-loop out inn marks₀ from to p₀ c₀ marks p c = (length marks ≡ 16) × Walking out inn (marks_of marks₀) to (marks_of marks) p c
 
 abbrev decreases-loop : tie.decreases-loop
-decreases-loop out inn marks₀ from to p₀ c₀ marks p c = zeros (marksOf marks)
+decreases-loop out inn marks₀ from to p₀ c₀ marks p c = zeros (marks_of marks)
 
 loop-holds : tie.Need-loop-init invariant-loop decreases-loop
-loop-holds c = (c.requires.2, walk_none _ _ _ _ _ (words-marks 16 _ c.requires.2) c.requires.3 c.requires.4 c.requires.5)
+loop-holds c = (c.requires.2, walk_none _ _ _ _ _ (words_marks 16 _ c.requires.2) c.requires.3 c.requires.4 c.requires.5)
 
 is-marked-requires : tie.Need-is-marked-requires invariant-loop decreases-loop
 is-marked-requires c κs = omega (arith, c.before.before.loop.invariant.1.small)
@@ -51,7 +51,7 @@ loop-less : tie.Need-loop-smaller invariant-loop decreases-loop
 loop-less c = let k = c.before.before.before.before.before in
     let at = k.before.before.before.before.before.before in
     let is = k.before.before.before.is-marked in
-    rw k.mark.ensures.1 (walk-falls _ _ _ _ _ _ _ at.loop.invariant.1 (not-marked (marksOf at.loop.marks) at.loop.c (sym (not-true is.result k.before.before.if1.true) ∙ is.ensures)))
+    rw k.mark.ensures.1 (walk_falls _ _ _ _ _ _ _ at.loop.invariant.1 (not_marked (marks_of at.loop.marks) at.loop.c (sym (not-true is.result k.before.before.if1.true) ∙ is.ensures)))
 
 loop-again : tie.Need-loop-preserved invariant-loop decreases-loop
 loop-again c = let k = c.before.before.before.before.before in
@@ -61,7 +61,7 @@ loop-again c = let k = c.before.before.before.before.before in
 returns : tie.Need-returns invariant-loop decreases-loop
 returns c = let at = c.before.before.before.before in
     let is = c.before.is-marked in
-    (at.loop.invariant.0, walk-done _ _ _ _ _ _ _ at.loop.invariant.1 (marked-is (marksOf at.loop.marks) at.loop.c (sym (not-false is.result c.if1.false) ∙ is.ensures)))
+    (at.loop.invariant.0, walk_done _ _ _ _ _ _ _ at.loop.invariant.1 (marked_is (marks_of at.loop.marks) at.loop.c (sym (not-false is.result c.if1.false) ∙ is.ensures)))
 
 pub walk-spec : {M : Type 1} → statement M
 walk-spec =

@@ -1,7 +1,7 @@
 -- What the single steps of check 0C leave: one corner of each point, marks that spread from corner to corner, and the lowest point cut off.
 use Rattle.std.specs.Prelude.{ℕ, ◌+◌, ◌/◌, ◌%◌, ◌<◌, ◌≡◌, ◌⊎◌, List, length, get_or, set}
 use Rattle.whole.specs.Least.{LeastBelow}
-use Rattle.words.specs.held.Words.{keyOf, step_of, next_of, node_of}
+use Rattle.words.specs.held.Words.{key_from, step_of, next_of, node_of}
 use Rattle.reach.specs.Reach.{Reach}
 use Rattle.reach.specs.held.Marking.{Joined, Marked, Marks, Joint, Grown, Flooded}
 
@@ -31,9 +31,9 @@ pub record Cornered (es l : List ℕ) : Type 0 where
   pub steps : Lone step_of l
   pub nexts : Lone next_of l
   pub rounds : (i : ℕ) → i < length l → (j : ℕ) × (j < length l) × (step_of (get_or l j 0) ≡ next_of (get_or l i 0))
-  pub low : (i : ℕ) → i < length l → get_or es (node_of 1 (get_or l i 0)) 0 ≡ keyOf (get_or l i 0) / 65536 % 1024
-  pub high : (i : ℕ) → i < length l → get_or es (node_of 2 (get_or l i 0)) 0 ≡ keyOf (get_or l i 0) % 1024
-  pub pairs : (i : ℕ) → i % 2 ≡ 0 → i < length l → (i + 1 < length l) × (keyOf (get_or l i 0) ≡ keyOf (get_or l (i + 1) 0))
+  pub low : (i : ℕ) → i < length l → get_or es (node_of 1 (get_or l i 0)) 0 ≡ key_from (get_or l i 0) / 65536 % 1024
+  pub high : (i : ℕ) → i < length l → get_or es (node_of 2 (get_or l i 0)) 0 ≡ key_from (get_or l i 0) % 1024
+  pub pairs : (i : ℕ) → i % 2 ≡ 0 → i < length l → (i + 1 < length l) × (key_from (get_or l i 0) ≡ key_from (get_or l (i + 1) 0))
 
 -- the tables have what the pairs join, where each corner has one pair of its own step and one of the step before
 pub record Crossed (l out inn : List ℕ) : Type 0 where

@@ -4,7 +4,7 @@ use Rattle.whole.specs.held.Stored.{zeroed}
 use Rattle.frame.specs.Frame.{point}
 use Rattle.taken.specs.held.Chains.{Chained}
 use Rattle.places.specs.held.Places.{point3}
-use Rattle.places.specs.Points.{isFar}
+use Rattle.places.specs.Points.{is_far_of}
 use Rattle.building.specs.held.Holds.{Arrays}
 use Rattle.service.specs.declared.Refusal.{Refusal}
 use Rattle.modes.specs.declared.Mode.{Mode}
@@ -19,8 +19,8 @@ unchained Loading table = zeroed table 512
 unchained Holding table = zeroed table 512
 
 -- the arrays with other points and another table
-abbrev pub withPoints : List ℤ → List ℕ → Arrays → Arrays
-withPoints points table a =
+abbrev pub with_points : List ℤ → List ℕ → Arrays → Arrays
+with_points points table a =
     record { points = points; entries = a.entries; starts = a.starts; firsts = a.firsts; stamps = a.stamps; findings = a.findings; parts = a.parts; table = table; turned = a.turned }
 
 -- what a point more asks of the arrays that it changes
@@ -32,4 +32,4 @@ pub record Placing (points : List ℤ) (table : List ℕ) (d : Desk) : Type 0 wh
 
 -- a point more is refused by the first row that holds; accepted, there is room for it, and it is near
 abbrev pub PointRow : List ℤ → Desk → ℤ → ℤ → ℤ → Refusal → Type 0
-PointRow points d x y z r = Row d (λ a. a.points ≡ points) (point x y z) ((d.held.points < 512) × (isFar (point3 x y z) ≡ false)) r
+PointRow points d x y z r = Row d (λ a. a.points ≡ points) (point x y z) ((d.held.points < 512) × (is_far_of (point3 x y z) ≡ false)) r

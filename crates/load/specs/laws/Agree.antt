@@ -4,11 +4,11 @@ use Rattle.frame.specs.Frame.{begin, point}
 use Rattle.building.specs.held.Holds.{Arrays}
 use Rattle.desk.specs.declared.Desk.{Desk}
 use Rattle.desk.specs.held.Holds.{service, Did, does}
-use Rattle.desk.specs.laws.Agree.{Same, did-agree}
+use Rattle.desk.specs.laws.Agree.{Same, did_agree}
 
 module _ (a : Arrays) (d : Desk) (room room₁ room₂ : List ℕ) (a₁ a₂ : Arrays) (d₁ d₂ : Desk) where
-  pub begin-agrees : (tolerance : ℕ) → Did (does (service a d) (begin tolerance)) room d.at a₁ room₁ d₁ → Did (does (service a d) (begin tolerance)) room d.at a₂ room₂ d₂ → Same room₁ room₂ a₁ a₂ d₁ d₂
-  begin-agrees tolerance = did-agree
+  pub begin_agrees : (tolerance : ℕ) → Did (does (service a d) (begin tolerance)) room d.at a₁ room₁ d₁ → Did (does (service a d) (begin tolerance)) room d.at a₂ room₂ d₂ → Same room₁ room₂ a₁ a₂ d₁ d₂
+  begin_agrees tolerance = did_agree
 
-  pub add-point-agrees : (x y z : ℤ) → Did (does (service a d) (point x y z)) room d.at a₁ room₁ d₁ → Did (does (service a d) (point x y z)) room d.at a₂ room₂ d₂ → Same room₁ room₂ a₁ a₂ d₁ d₂
-  add-point-agrees x y z = did-agree
+  pub add_point_agrees : (x y z : ℤ) → Did (does (service a d) (point x y z)) room d.at a₁ room₁ d₁ → Did (does (service a d) (point x y z)) room d.at a₂ room₂ d₂ → Same room₁ room₂ a₁ a₂ d₁ d₂
+  add_point_agrees x y z = did_agree

@@ -13,11 +13,11 @@ use Rattle.places.specs.held.Places.{point3, placed}
 use Rattle.taken.specs.held.Chains.{Chained, linked}
 use Rattle.taken.specs.laws.Chains.{chained-none, chained_more}
 use Rattle.building.specs.Tables.{loaded}
-use Rattle.building.specs.held.Holds.{Arrays, heldTables, heldBuilding, Loaded}
-use Rattle.building.specs.laws.Load.{loaded-begun, tables-begun, loaded-point, tables-point}
+use Rattle.building.specs.held.Holds.{Arrays, held_tables, held_building, Loaded}
+use Rattle.building.specs.laws.Load.{loaded-begun, tables-begun, loaded_point, tables_point}
 use Rattle.service.specs.declared.Refusal.{Refusal}
 use Rattle.service.specs.declared.Refusal.TheVariants.{Accepted, Beyond}
-use Rattle.service.specs.Service.{State, loading, tables_of, isMisplaced, isBeyond, refusal, takes, answerTo, Outcome, refused, isAccepted}
+use Rattle.service.specs.Service.{State, loading, tables_of, is_misplaced_of, is_beyond_of, refusal, takes, answer_to, Outcome, refused, is_accepted_of}
 use Rattle.service.specs.laws.Fresh.{Passed}
 use Rattle.service.specs.laws.Handlers.{of-begin}
 use Rattle.modes.specs.declared.Mode.{Mode}
@@ -25,63 +25,63 @@ use Rattle.modes.specs.declared.Mode.TheVariants.{Nothing, Loading, Holding}
 use Rattle.desk.specs.declared.Desk.{Desk}
 use Rattle.modes.specs.held.Mode.{loads}
 use Rattle.desk.specs.held.Holds.{state_of, service, Valid, Did, does}
-use Rattle.desk.specs.laws.Rows.{tables, loads-is, service-loads}
-use Rattle.desk.specs.laws.Dids.{did-refused, did-accepted, passed-row, loading-mode, not-held, loading-not-nothing}
-use Rattle.load.specs.held.Load.{unchained, withPoints}
+use Rattle.desk.specs.laws.Rows.{tables, loads_is, service-loads}
+use Rattle.desk.specs.laws.Dids.{did_refused, did_accepted, passed_row, loading_mode, not-held, loading_not_nothing}
+use Rattle.load.specs.held.Load.{unchained, with_points}
 
 -- arrays that are as they were, two of them under other names
-pub did-points : (o : Outcome) (room : List ℕ) (at : ℕ) (a : Arrays) (room' : List ℕ) (d : Desk) (points : List ℤ) (table : List ℕ) → a.points ≡ points → a.table ≡ table → Did o room at a room' d
-    → Did o room at (withPoints points table a) room' d
-did-points o room at a room' d points table e f h = subst (λ (w : Arrays). Did o room at w room' d) (λ i. withPoints (e i) (f i) a) h
+pub did_points : (o : Outcome) (room : List ℕ) (at : ℕ) (a : Arrays) (room' : List ℕ) (d : Desk) (points : List ℤ) (table : List ℕ) → a.points ≡ points → a.table ≡ table → Did o room at a room' d
+    → Did o room at (with_points points table a) room' d
+did_points o room at a room' d points table e f h = subst (λ (w : Arrays). Did o room at w room' d) (λ i. with_points (e i) (f i) a) h
 
 -- ---- begin
 
 module _ (a : Arrays) (d : Desk) (v : Valid a d) (tolerance : ℕ) where
   -- a load just begun
-  abbrev pub begunDesk : ℕ → Desk
-  begunDesk at = record { mode = Loading; held = record { tolerance = tolerance; points = 0; polygons = 0; last = 0; edges = 0; fixed = Whole; shape = Whole }; at = at }
+  abbrev pub begun_desk : ℕ → Desk
+  begun_desk at = record { mode = Loading; held = record { tolerance = tolerance; points = 0; polygons = 0; last = 0; edges = 0; fixed = Whole; shape = Whole }; at = at }
 
   -- the chains of no point
-  begun-chains : (m : Mode) → d.mode ≡ m → (table : List ℕ) → table ≡ unchained m a.table → Chained a.points table 0
+  begun_chains : (m : Mode) → d.mode ≡ m → (table : List ℕ) → table ≡ unchained m a.table → Chained a.points table 0
   unfolding unchained
-  begun-chains Nothing q table e = subst (λ (t : List ℕ). Chained a.points t 0) (sym e) (v.fresh q)
-  begun-chains Loading q table e = subst (λ (t : List ℕ). Chained a.points t 0) (sym e) (chained-none a.points a.table v.sizes.table)
-  begun-chains Holding q table e = subst (λ (t : List ℕ). Chained a.points t 0) (sym e) (chained-none a.points a.table v.sizes.table)
+  begun_chains Nothing q table e = subst (λ (t : List ℕ). Chained a.points t 0) (sym e) (v.fresh q)
+  begun_chains Loading q table e = subst (λ (t : List ℕ). Chained a.points t 0) (sym e) (chained-none a.points a.table v.sizes.table)
+  begun_chains Holding q table e = subst (λ (t : List ℕ). Chained a.points t 0) (sym e) (chained-none a.points a.table v.sizes.table)
 
-  pub did-begin : tolerance ≤ 1000 → (table : List ℕ) → table ≡ unchained d.mode a.table → (room room' : List ℕ) (at : ℕ) → Wrote (ended (plain 0)) room d.at room' at
-      → Did (does (service a d) (begin tolerance)) room d.at (withPoints a.points table a) room' (begunDesk at)
-  unfolding first given isAccepted takes answerTo service state_of
-  did-begin h table e room room' at w =
-      let ch : Chained a.points table 0 = begun-chains d.mode refl table e in
-      did-accepted (service a d) (begin tolerance) Accepted room room' d.at (withPoints a.points table a) (begunDesk at)
+  pub did_begin : tolerance ≤ 1000 → (table : List ℕ) → table ≡ unchained d.mode a.table → (room room' : List ℕ) (at : ℕ) → Wrote (ended (plain 0)) room d.at room' at
+      → Did (does (service a d) (begin tolerance)) room d.at (with_points a.points table a) room' (begun_desk at)
+  unfolding first given is_accepted_of takes answer_to service state_of
+  did_begin h table e room room' at w =
+      let ch : Chained a.points table 0 = begun_chains d.mode refl table e in
+      did_accepted (service a d) (begin tolerance) Accepted room room' d.at (with_points a.points table a) (begun_desk at)
       (sym (of-begin (service a d) tolerance ∙ (rw (le-ltb 1000 tolerance h)))) refl
       (record {
-        loaded = loaded-begun a.points a.entries a.starts a.firsts tolerance 0 0 Whole Whole v.loaded.coords v.loaded.entered.size v.loaded.layout.starts-size v.loaded.layout.firsts-size v.loaded.first v.loaded.layout.begin h;
+        loaded = loaded-begun a.points a.entries a.starts a.firsts tolerance 0 0 Whole Whole v.loaded.coords v.loaded.entered.size v.loaded.layout.starts_size v.loaded.layout.firsts_size v.loaded.first v.loaded.layout.begin h;
         sizes = record { stamps = v.sizes.stamps; findings = v.sizes.findings; parts = v.sizes.parts; table = ch.size; turned = v.sizes.turned };
         kept = λ q. absurd (not-held q);
         chained = λ q. ch;
-        fresh = λ q. absurd (loading-not-nothing q);
+        fresh = λ q. absurd (loading_not_nothing q);
       })
       (ap loading (tables-begun a.points a.entries a.starts a.firsts tolerance 0 0 Whole Whole))
       w
 
-  pub did-begin-beyond : 1000 < tolerance → (room room' : List ℕ) (d' : Desk) → Did (refused Beyond (service a d)) room d.at a room' d' → Did (does (service a d) (begin tolerance)) room d.at a room' d'
-  unfolding first given isAccepted
-  did-begin-beyond h room room' d' w = did-refused a d v (begin tolerance) Beyond room room' d' (sym (of-begin (service a d) tolerance ∙ (rw (lt-ltb 1000 tolerance h)))) refl w
+  pub did_begin-beyond : 1000 < tolerance → (room room' : List ℕ) (d' : Desk) → Did (refused Beyond (service a d)) room d.at a room' d' → Did (does (service a d) (begin tolerance)) room d.at a room' d'
+  unfolding first given is_accepted_of
+  did_begin-beyond h room room' d' w = did_refused a d v (begin tolerance) Beyond room room' d' (sym (of-begin (service a d) tolerance ∙ (rw (lt-ltb 1000 tolerance h)))) refl w
 
 -- ---- a point more
 
-module _ (a : Arrays) (d : Desk) (v : Valid a d) (x y z : ℤ) (r : Refusal) (row : r ≡ refusal (service a d) (point x y z)) (t : isAccepted r ≡ true) where
-  point-passed : Passed (service a d) (point x y z)
-  point-passed = passed-row (service a d) (point x y z) r row t
+module _ (a : Arrays) (d : Desk) (v : Valid a d) (x y z : ℤ) (r : Refusal) (row : r ≡ refusal (service a d) (point x y z)) (t : is_accepted_of r ≡ true) where
+  point_passed : Passed (service a d) (point x y z)
+  point_passed = passed_row (service a d) (point x y z) r row t
 
-  point-loads : loads d.mode ≡ true
-  unfolding isMisplaced service
-  point-loads = loading-mode d.mode (tables a d) (heldBuilding a d.held) point-passed.placed
+  point_loads : loads d.mode ≡ true
+  unfolding is_misplaced_of service
+  point_loads = loading_mode d.mode (tables a d) (held_building a d.held) point_passed.placed
 
   -- one point more
-  abbrev pub pointDesk : ℕ → Desk
-  pointDesk at =
+  abbrev pub point_desk : ℕ → Desk
+  point_desk at =
       record {
         mode = Loading;
         held = record { tolerance = d.held.tolerance; points = d.held.points + 1; polygons = d.held.polygons; last = d.held.last; edges = d.held.edges; fixed = Whole; shape = Whole };
@@ -89,28 +89,28 @@ module _ (a : Arrays) (d : Desk) (v : Valid a d) (x y z : ℤ) (r : Refusal) (ro
       }
 
   -- the chains with the point
-  point-chains : d.held.points < 512 → (points : List ℤ) (table : List ℕ) → points ≡ placed a.points d.held.points (point3 x y z) → table ≡ linked a.table d.held.points (point3 x y z)
+  point_chains : d.held.points < 512 → (points : List ℤ) (table : List ℕ) → points ≡ placed a.points d.held.points (point3 x y z) → table ≡ linked a.table d.held.points (point3 x y z)
       → Chained points table (d.held.points + 1)
-  point-chains few points table e f =
+  point_chains few points table e f =
       subst (λ (q : List ℤ). Chained q table (d.held.points + 1)) (sym e)
       (subst (λ (q : List ℕ). Chained (placed a.points d.held.points (point3 x y z)) q (d.held.points + 1)) (sym f)
-      (chained_more a.points a.table d.held.points (point3 x y z) v.loaded.coords.room few (v.chained (loads-is d.mode point-loads))))
+      (chained_more a.points a.table d.held.points (point3 x y z) v.loaded.coords.room few (v.chained (loads_is d.mode point_loads))))
 
-  pub did-point : d.held.points < 512 → (points : List ℤ) (table : List ℕ) → points ≡ placed a.points d.held.points (point3 x y z) → table ≡ linked a.table d.held.points (point3 x y z)
-      → (room room' : List ℕ) (at : ℕ) → Wrote (ended (plain 0)) room d.at room' at → Did (does (service a d) (point x y z)) room d.at (withPoints points table a) room' (pointDesk at)
-  unfolding takes answerTo service state_of isBeyond tables_of
-  did-point few points table e f room room' at w =
-      let ch : Chained points table (d.held.points + 1) = point-chains few points table e f in
-      did-accepted (service a d) (point x y z) r room room' d.at (withPoints points table a) (pointDesk at) row t
+  pub did_point : d.held.points < 512 → (points : List ℤ) (table : List ℕ) → points ≡ placed a.points d.held.points (point3 x y z) → table ≡ linked a.table d.held.points (point3 x y z)
+      → (room room' : List ℕ) (at : ℕ) → Wrote (ended (plain 0)) room d.at room' at → Did (does (service a d) (point x y z)) room d.at (with_points points table a) room' (point_desk at)
+  unfolding takes answer_to service state_of is_beyond_of tables_of
+  did_point few points table e f room room' at w =
+      let ch : Chained points table (d.held.points + 1) = point_chains few points table e f in
+      did_accepted (service a d) (point x y z) r room room' d.at (with_points points table a) (point_desk at) row t
       (record {
-        loaded = subst (λ (q : List ℤ). Loaded q a.entries a.starts a.firsts (pointDesk at).held) (sym e)
-            (loaded-point v.loaded (point3 x y z) few d.held.last d.held.edges Whole Whole point-passed.within);
+        loaded = subst (λ (q : List ℤ). Loaded q a.entries a.starts a.firsts (point_desk at).held) (sym e)
+            (loaded_point v.loaded (point3 x y z) few d.held.last d.held.edges Whole Whole point_passed.within);
         sizes = record { stamps = v.sizes.stamps; findings = v.sizes.findings; parts = v.sizes.parts; table = ch.size; turned = v.sizes.turned };
         kept = λ q. absurd (not-held q);
         chained = λ q. ch;
-        fresh = λ q. absurd (loading-not-nothing q);
+        fresh = λ q. absurd (loading_not_nothing q);
       })
-      (ap (λ (q : List ℤ). loading (heldTables q a.entries a.starts a.firsts (pointDesk at).held)) e
-      ∙ ap loading (tables-point v.loaded (point3 x y z) few d.held.last d.held.edges Whole Whole)
-      ∙ ap (λ (st : State). takes st (point x y z)) (sym (service-loads a d point-loads)))
+      (ap (λ (q : List ℤ). loading (held_tables q a.entries a.starts a.firsts (point_desk at).held)) e
+      ∙ ap loading (tables_point v.loaded (point3 x y z) few d.held.last d.held.edges Whole Whole)
+      ∙ ap (λ (st : State). takes st (point x y z)) (sym (service-loads a d point_loads)))
       w

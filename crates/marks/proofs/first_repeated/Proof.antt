@@ -4,7 +4,7 @@ use mathlib.Core.Path.{◌≡◌, refl, sym, ◌∙◌}
 use Prim.Native.Nat.{◌-◌}
 use lib.ListN.{length}
 use borrow.Author.Rules.{rules}
-use Rattle.marks.proofs.Passed.{Passed, point, passed_none, passed-more, passed-found, passed-done}
+use Rattle.marks.proofs.Passed.{Passed, point, passed_none, passed_more, passed_found, passed_done}
 use Rattle.marks.proofs.first_repeated.Statement.{statement}
 use Rattle.marks.proofs.first_repeated.Tie as tie
 
@@ -49,7 +49,7 @@ returns c =
     let l = c.before.before.before.before.before.before.loop in
     let a = c.before.before.before.before.before.before.before.before in
     let w = c.before.before.before.wide in
-    passed-found a.args.ring.now l.marks l.i w.result a.requires (omega arith) w.ensures l.invariant.1 (sym c.if1.true ∙ c.before.is_set.ensures)
+    passed_found a.args.ring.now l.marks l.i w.result a.requires (omega arith) w.ensures l.invariant.1 (sym c.if1.true ∙ c.before.is_set.ensures)
 
 mul-marks : tie.Need-overflow-mul-marks invariant-loop decreases-loop
 mul-marks c = search rules
@@ -73,12 +73,12 @@ loop-again c =
     let a = c.before.before.before.before.before.before.before.before in
     let w = c.before.before.before.wide in
     let s = c.before.before.with-set in
-    (refl, passed-more a.args.ring.now l.marks l.i w.result a.requires (omega arith) w.ensures l.invariant.1 s.result (sym c.if1.false ∙ c.before.is_set.ensures) s.ensures)
+    (refl, passed_more a.args.ring.now l.marks l.i w.result a.requires (omega arith) w.ensures l.invariant.1 s.result (sym c.if1.false ∙ c.before.is_set.ensures) s.ensures)
 
 returns-2 : tie.Need-returns-2 invariant-loop decreases-loop
 returns-2 c =
     let l = c.before.loop in
-    passed-done c.before.before.before.args.ring.now l.marks l.i (omega arith) l.invariant.1
+    passed_done c.before.before.before.args.ring.now l.marks l.i (omega arith) l.invariant.1
 
 pub first-repeated-spec : {M : Type 1} → statement M
 first-repeated-spec =

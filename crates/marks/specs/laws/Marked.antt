@@ -15,25 +15,25 @@ use Rattle.bits.specs.held.Bits.{bits_of, spread}
 use Rattle.bits.specs.laws.Words.{length-spread, spread_none, spread_at, spread-set}
 use Rattle.marks.specs.held.Marked.{Marked}
 
-pub marked-none : Marked (replicate 8 0) []
+pub marked_none : Marked (replicate 8 0) []
 unfolding lists any
-marked-none = record { eight = length-replicate {A = ℕ} 8 0; each = λ p. ap (λ (b : ℕ). eqb b 1) (spread_none 64 (replicate 8 0) (all_alike 0 8) p) }
+marked_none = record { eight = length-replicate {A = ℕ} 8 0; each = λ p. ap (λ (b : ℕ). eqb b 1) (spread_none 64 (replicate 8 0) (all_alike 0 8) p) }
 
 module _ (words met : List ℕ) (x : ℕ) (small : x < 512) (m : Marked words met) where
   size : length (spread 64 words) ≡ 512
   size = length-spread 64 words ∙ ap (λ (n : ℕ). n * 64) m.eight
 
   -- the bit that is read is point x's mark
-  pub mark-is : eqb (get_or (bits_of 64 (get_or words (x / 64) 0)) (x % 64) 0) 1 ≡ lists x met
-  mark-is =
+  pub mark_is : eqb (get_or (bits_of 64 (get_or words (x / 64) 0)) (x % 64) 0) 1 ≡ lists x met
+  mark_is =
       ap (λ (b : ℕ). eqb b 1)
       (sym (spread_at 64 words (x / 64) (x % 64) (omega (arith, m.eight)) (omega arith)) ∙ ap (λ (p : ℕ). get_or (spread 64 words) p 0) (div-add-mod' x 64))
       ∙ m.each x
 
   -- point x is marked
-  pub marked-set : (words' : List ℕ) → length words' ≡ length words → spread 64 words' ≡ set (spread 64 words) x 1 → Marked words' (met ++ (x ∷ []))
+  pub marked_set : (words' : List ℕ) → length words' ≡ length words → spread 64 words' ≡ set (spread 64 words) x 1 → Marked words' (met ++ (x ∷ []))
   unfolding lists
-  marked-set words' l now = record { eight = l ∙ m.eight; each = λ p. ap (λ (l : List ℕ). eqb (get_or l p 0) 1) now ∙ go p ∙ sym (any_snoc (eqb p) met x) }
+  marked_set words' l now = record { eight = l ∙ m.eight; each = λ p. ap (λ (l : List ℕ). eqb (get_or l p 0) 1) now ∙ go p ∙ sym (any_snoc (eqb p) met x) }
     where
       go : (p : ℕ) → eqb (get_or (set (spread 64 words) x 1) p 0) 1 ≡ (any (eqb p) met || eqb p x)
       go p =
@@ -48,5 +48,5 @@ module _ (words met : List ℕ) (x : ℕ) (small : x < 512) (m : Marked words me
   -- its bit is set in its word
   pub marked_more : (word : ℕ) → bits_of 64 word ≡ set (bits_of 64 (get_or words (x / 64) 0)) (x % 64) 1 → Marked (set words (x / 64) word) (met ++ (x ∷ []))
   marked_more word e =
-      marked-set (set words (x / 64) word) (length-set words (x / 64) word)
+      marked_set (set words (x / 64) word) (length-set words (x / 64) word)
       (spread-set 64 words (x / 64) (x % 64) word (omega (arith, m.eight)) (omega arith) e ∙ ap (λ (p : ℕ). set (spread 64 words) p 1) (div-add-mod' x 64))

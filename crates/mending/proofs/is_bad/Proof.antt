@@ -2,8 +2,8 @@
 use native.Mathlib.Omega.{arith}
 use borrow.Author.Rules.{rules}
 use Rattle.whole.specs.Lists.{front}
-use Rattle.ring.specs.held.Rings.{ringAt}
-use Rattle.mending.specs.laws.Passes.{short-bad, open-bad, closed-good, noted-bad, noted-good}
+use Rattle.ring.specs.held.Rings.{ring_at}
+use Rattle.mending.specs.laws.Passes.{short_bad, open_bad, closed_good, noted_bad, noted_good}
 use Rattle.mending.proofs.is_bad.Statement.{statement}
 use Rattle.mending.proofs.is_bad.Tie as tie
 
@@ -43,8 +43,8 @@ part-own-end c = search rules
 returns : tie.Need-returns
 returns c =
     let s = c.before.before.before.before.before in
-    let r = ringAt s.args.entries.now s.args.starts.now s.args.q in
-    noted-bad s.args.marks.now (front r) s.requires.1 (short-bad r (omega arith))
+    let r = ring_at s.args.entries.now s.args.starts.now s.args.q in
+    noted_bad s.args.marks.now (front r) s.requires.1 (short_bad r (omega arith))
 
 is-closed-requires : tie.Need-is-closed-requires
 is-closed-requires c κs = search rules
@@ -55,14 +55,14 @@ meets-again-requires c κs = search rules
 returns-2 : tie.Need-returns-2
 returns-2 c =
     let s = c.before.before.before.before.before.before.before.before.before in
-    let r = ringAt s.args.entries.now s.args.starts.now s.args.q in
-    noted-good (closed-good r (omega (arith, c.before.before.before.before.if1.false)) c.before.before.before.is-closed.ensures c.before.before.if2.true) c.meets-again.ensures
+    let r = ring_at s.args.entries.now s.args.starts.now s.args.q in
+    noted_good (closed_good r (omega (arith, c.before.before.before.before.if1.false)) c.before.before.before.is-closed.ensures c.before.before.if2.true) c.meets-again.ensures
 
 returns-3 : tie.Need-returns-3
 returns-3 c =
     let s = c.before.before.before.before.before.before.before in
-    let r = ringAt s.args.entries.now s.args.starts.now s.args.q in
-    noted-bad s.args.marks.now (front r) s.requires.1 (open-bad r c.before.is-closed.ensures c.if2.false)
+    let r = ring_at s.args.entries.now s.args.starts.now s.args.q in
+    noted_bad s.args.marks.now (front r) s.requires.1 (open_bad r c.before.is-closed.ensures c.if2.false)
 
 pub is-bad-spec : {M : Type 1} → statement M
 is-bad-spec =

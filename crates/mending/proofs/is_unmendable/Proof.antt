@@ -1,7 +1,7 @@
 -- `mending::is_unmendable` meets its contract. The loop: the rings from q on, with the numbers that are marked, tell of all.
 use Prim.Native.Nat.{◌-◌}
 use borrow.Author.Rules.{rules}
-use Rattle.mending.specs.laws.Passes.{Going, going-none, going-here, going_next, going_end}
+use Rattle.mending.specs.laws.Passes.{Going, going_none, going-here, going_next, going_end}
 use Rattle.mending.proofs.is_unmendable.Statement.{statement}
 use Rattle.mending.proofs.is_unmendable.Tie as tie
 
@@ -12,7 +12,7 @@ abbrev decreases-loop : tie.decreases-loop
 decreases-loop entries starts from to marks₀ q₀ marks q = to - q
 
 loop-holds : tie.Need-loop-init invariant-loop decreases-loop
-loop-holds c = going-none c.args.entries.now c.args.starts.now c.args.from c.args.to c.requires.some
+loop-holds c = going_none c.args.entries.now c.args.starts.now c.args.from c.args.to c.requires.some
 
 is-bad-requires : tie.Need-is-bad-requires invariant-loop decreases-loop
 is-bad-requires c κs =

@@ -4,7 +4,7 @@ use native.Mathlib.Omega.{arith}
 use mathlib.Core.Path.{◌≡◌, refl, sym, ◌∙◌}
 use lib.ListN.{length}
 use borrow.Author.Rules.{rules}
-use Rattle.mending.specs.laws.Passes.{Noting, noting-none, word-there, noting-more, noting-found, noting-done}
+use Rattle.mending.specs.laws.Passes.{Noting, noting_none, word-there, noting_more, noting_found, noting_done}
 use Rattle.mending.proofs.meets_again.Statement.{statement}
 use Rattle.mending.proofs.meets_again.Tie as tie
 
@@ -15,7 +15,7 @@ abbrev decreases-loop : tie.decreases-loop
 decreases-loop ring marks₀ n i₀ marks i = n - i
 
 loop-holds : tie.Need-loop-init invariant-loop decreases-loop
-loop-holds c = (refl, noting-none _ c.before.args.ring.now c.before.requires.1)
+loop-holds c = (refl, noting_none _ c.before.args.ring.now c.before.requires.1)
 
 add-loop : tie.Need-overflow-add-loop invariant-loop decreases-loop
 add-loop c = search rules
@@ -41,7 +41,7 @@ returns c =
     let l = c.before.before.before.before.before.before.before.loop in
     let a = c.before.before.before.before.before.before.before.before.before in
     let w = c.before.before.before.before.wide in
-    noting-found a.args.marks.now a.args.ring.now l.marks l.i w.result a.requires.0 (omega arith) w.ensures l.invariant.1 (sym c.if1.true ∙ c.before.is-marked.ensures)
+    noting_found a.args.marks.now a.args.ring.now l.marks l.i w.result a.requires.0 (omega arith) w.ensures l.invariant.1 (sym c.if1.true ∙ c.before.is-marked.ensures)
 
 mark-requires : tie.Need-mark-requires invariant-loop decreases-loop
 mark-requires c κs =
@@ -62,13 +62,13 @@ loop-again c =
     let a = c.before.before.before.before.before.before.before.before.before.before.before in
     let w = c.before.before.before.before.before.before.wide in
     let m = c.mark.ensures in
-    (refl, noting-more a.args.marks.now a.args.ring.now l.marks l.i w.result a.requires.0 (omega arith) w.ensures l.invariant.1 (sym c.before.before.if1.false ∙ c.before.before.before.is-marked.ensures) _ m.0 m.1)
+    (refl, noting_more a.args.marks.now a.args.ring.now l.marks l.i w.result a.requires.0 (omega arith) w.ensures l.invariant.1 (sym c.before.before.if1.false ∙ c.before.before.before.is-marked.ensures) _ m.0 m.1)
 
 returns-2 : tie.Need-returns-2 invariant-loop decreases-loop
 returns-2 c =
     let l = c.before.loop in
     let a = c.before.before.before.args in
-    noting-done a.marks.now a.ring.now l.marks l.i (omega arith) l.invariant.1
+    noting_done a.marks.now a.ring.now l.marks l.i (omega arith) l.invariant.1
 
 pub meets-again-spec : {M : Type 1} → statement M
 meets-again-spec =

@@ -2,7 +2,7 @@
 use Rattle.std.specs.Prelude.{◌≡◌, Bool}
 use Rattle.whole.specs.laws.Agree.{agree}
 use Rattle.ring.specs.Polygon.{Polygon}
-use Rattle.building.specs.held.Holds.{isUnmendable}
+use Rattle.building.specs.held.Holds.{is_unmendable_of}
 
-pub is-unmendable-agrees : (p : Polygon) (r₁ r₂ : Bool) → r₁ ≡ isUnmendable p → r₂ ≡ isUnmendable p → r₁ ≡ r₂
-is-unmendable-agrees p r₁ r₂ = agree
+pub is_unmendable_agrees : (p : Polygon) (r₁ r₂ : Bool) → r₁ ≡ is_unmendable_of p → r₂ ≡ is_unmendable_of p → r₁ ≡ r₂
+is_unmendable_agrees p r₁ r₂ = agree

@@ -4,8 +4,8 @@ use Rattle.whole.specs.laws.Agree.{agree}
 use Rattle.modes.specs.declared.Mode.{Mode}
 use Rattle.modes.specs.held.Mode.{loads, holds}
 
-pub is-loading-agrees : (m : Mode) (b₁ b₂ : Bool) → b₁ ≡ loads m → b₂ ≡ loads m → b₁ ≡ b₂
-is-loading-agrees m b₁ b₂ = agree
+pub is_loading_agrees : (m : Mode) (b₁ b₂ : Bool) → b₁ ≡ loads m → b₂ ≡ loads m → b₁ ≡ b₂
+is_loading_agrees m b₁ b₂ = agree
 
-pub is-holding-agrees : (m : Mode) (b₁ b₂ : Bool) → b₁ ≡ holds m → b₂ ≡ holds m → b₁ ≡ b₂
-is-holding-agrees m b₁ b₂ = agree
+pub is_holding_agrees : (m : Mode) (b₁ b₂ : Bool) → b₁ ≡ holds m → b₂ ≡ holds m → b₁ ≡ b₂
+is_holding_agrees m b₁ b₂ = agree

@@ -4,7 +4,7 @@ use mathlib.Core.Path.{◌≡◌, ◌∙◌, subst}
 use native.Mathlib.Omega.{arith}
 use borrow.Author.Rules.{rules}
 use Rattle.moves.specs.held.Steps.{Looked}
-use Rattle.moves.specs.laws.Steps.{looked-none, looked-stamps, looked-findings, looked-parts}
+use Rattle.moves.specs.laws.Steps.{looked_none, looked-stamps, looked-findings, looked-parts}
 use Rattle.moves.specs.laws.Spans.{looked-joined}
 use Rattle.moves.proofs.look_again.Statement.{statement}
 use Rattle.moves.proofs.look_again.Tie as tie
@@ -20,7 +20,7 @@ decreases-loop points entries starts firsts stamps₀ findings₀ parts₀ s n n
 loop-holds : tie.Need-loop-init invariant-loop decreases-loop
 loop-holds c =
     let a = c.args in
-    (search rules, looked-none a.s.tolerance a.points.now a.entries.now a.starts.now a.firsts.now a.number a.n)
+    (search rules, looked_none a.s.tolerance a.points.now a.entries.now a.starts.now a.firsts.now a.number a.n)
 
 group-end-requires : tie.Need-group-end-requires invariant-loop decreases-loop
 group-end-requires c κs = search rules

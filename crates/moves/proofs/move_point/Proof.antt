@@ -1,4 +1,4 @@
--- `moves::move_point` meets its contract, by the law of a move (`did-moved`).
+-- `moves::move_point` meets its contract, by the law of a move (`did_moved`).
 use mathlib.Core.Path.{refl, sym, ap, ◌∙◌, subst}
 use mathlib.Core.List.{List}
 use lib.IntN.{ℤ}
@@ -6,7 +6,7 @@ use Rattle.space.specs.Space.{Point}
 use Rattle.places.specs.held.Places.{point3, placed}
 use Rattle.places.specs.laws.Near.{near-place, near-bits}
 use Rattle.building.specs.held.Holds.{arrays, Loaded}
-use Rattle.moves.specs.laws.Moved.{moved-loaded, did-moved}
+use Rattle.moves.specs.laws.Moved.{moved-loaded, did_moved}
 use borrow.Author.Rules.{rules}
 use Rattle.moves.proofs.move_point.Statement.{statement}
 use Rattle.moves.proofs.move_point.Tie as tie
@@ -32,7 +32,7 @@ returns c =
     let a = s.args in
     let p = point3 a.x a.y a.z in
     let e = c.before.before.before.before.before.place.ensures ∙ ap (λ (q : Point). placed a.points.now a.n q) (near-bits a.x a.y a.z s.requires.1.1) in (
-      did-moved (arrays a.points.now a.entries.now a.starts.now a.firsts.now a.stamps.now a.findings.now a.parts.now a.table.now a.turned.now) a.s s.requires.0 a.number a.n p s.requires.1.0 (near-place p s.requires.1.1) e c.look-again.ensures,
+      did_moved (arrays a.points.now a.entries.now a.starts.now a.firsts.now a.stamps.now a.findings.now a.parts.now a.table.now a.turned.now) a.s s.requires.0 a.number a.n p s.requires.1.0 (near-place p s.requires.1.1) e c.look-again.ensures,
       record { points = e; looked = c.look-again.ensures; scalars = refl },
     )
 

@@ -2,19 +2,19 @@
 use Rattle.std.specs.Prelude.{ℕ, ◌≡◌, cond, List, ltb, get_or, set, ℤ, pos}
 use Rattle.whole.specs.Lists.{lists}
 use Rattle.whole.specs.held.Stored.{upto}
-use Rattle.ring.specs.Polygon.{entriesOf}
-use Rattle.ring.specs.held.Rings.{polygonAt}
+use Rattle.ring.specs.Polygon.{entries_from}
+use Rattle.ring.specs.held.Rings.{polygon_at}
 use Rattle.renew.specs.held.Renewed.{kept_at, part_at}
 
 -- stamp, finding and part of polygon p, looked at again if one of its rings lists point n
 abbrev pub restamp : List ℕ → List ℕ → List ℕ → ℕ → ℕ → ℕ → ℕ → ℕ
-restamp entries starts firsts number n p old = cond (lists n (entriesOf (polygonAt entries starts firsts p))) number old
+restamp entries starts firsts number n p old = cond (lists n (entries_from (polygon_at entries starts firsts p))) number old
 
 abbrev pub refind : ℕ → List ℤ → List ℕ → List ℕ → List ℕ → ℕ → ℕ → ℕ → ℕ
-refind tolerance points entries starts firsts n p old = cond (lists n (entriesOf (polygonAt entries starts firsts p))) (kept_at tolerance points entries starts firsts p) old
+refind tolerance points entries starts firsts n p old = cond (lists n (entries_from (polygon_at entries starts firsts p))) (kept_at tolerance points entries starts firsts p) old
 
 abbrev pub repart : List ℤ → List ℕ → List ℕ → List ℕ → ℕ → ℕ → ℤ → ℤ
-repart points entries starts firsts n p old = cond (lists n (entriesOf (polygonAt entries starts firsts p))) (part_at points entries starts firsts p) old
+repart points entries starts firsts n p old = cond (lists n (entries_from (polygon_at entries starts firsts p))) (part_at points entries starts firsts p) old
 
 module _ (tolerance : ℕ) (points : List ℤ) (entries starts firsts : List ℕ) (number n : ℕ) where
   pub record Touched (p : ℕ) (stamps findings : List ℕ) (parts : List ℤ) (stamps' findings' : List ℕ) (parts' : List ℤ) : Type 0 where

@@ -11,17 +11,17 @@ use Rattle.std.proofs.Math.ListN.{get_or, set}
 use Rattle.std.proofs.Math.Seq.{set-get_or}
 use Rattle.whole.specs.Lists.{lists}
 use Rattle.whole.specs.laws.Alls.{any_none, none_any}
-use Rattle.whole.specs.laws.Stores.{cases, length-upto, upto-more, upto_rest}
+use Rattle.whole.specs.laws.Stores.{cases, length-upto, upto_more, upto_rest}
 use Rattle.whole.specs.held.Stored.{upto}
-use Rattle.ring.specs.Polygon.{entriesOf}
-use Rattle.ring.specs.held.Rings.{polygonAt, Layout}
-use Rattle.ring.specs.laws.Owners.{firsts-ordered}
+use Rattle.ring.specs.Polygon.{entries_from}
+use Rattle.ring.specs.held.Rings.{polygon_at, Layout}
+use Rattle.ring.specs.laws.Owners.{firsts_ordered}
 use Rattle.building.specs.declared.Scalars.{Scalars}
 use Rattle.building.specs.held.Holds.{Loaded}
 use Rattle.building.specs.laws.Rings.{stands_of}
 use Rattle.moves.specs.laws.Rings.{lists-entries}
 use Rattle.building.specs.held.Rings.{cut}
-use Rattle.building.specs.laws.Lists.{length_cut, getD-cut, all-each, each_all}
+use Rattle.building.specs.laws.Lists.{length_cut, get_d_cut, all_each, each_all}
 use Rattle.moves.specs.held.Steps.{restamp, refind, repart, Touched, Looked, from, LookedFrom}
 
 -- ---- what a part of a list does not list, no smaller part does
@@ -33,15 +33,15 @@ smaller-lists-not n l a b a' b' h g w e =
     (λ i q. let k : i < b' - a' = omega (arith, length_cut a' b' l (omega arith)) in
     let j : a' - a + i < b - a = omega arith in
     let s : a + (a' - a + i) ≡ a' + i = omega arith in
-    rw (getD-cut a' b' i l 0 k, ← s, ← getD-cut a b (a' - a + i) l 0 j)
-    (all-each (λ (x : ℕ). eqb n x ≡ false) 0 (any_none (eqb n) (cut a b l) e) (a' - a + i) (omega (arith, length_cut a b l w)))))
+    rw (get_d_cut a' b' i l 0 k, ← s, ← get_d_cut a b (a' - a + i) l 0 j)
+    (all_each (λ (x : ℕ). eqb n x ≡ false) 0 (any_none (eqb n) (cut a b l) e) (a' - a + i) (omega (arith, length_cut a b l w)))))
 
 -- no polygon of the span lists what its entries do not list
 pub none-listed : {points : List ℤ} {entries starts firsts : List ℕ} {s : Scalars} → Loaded points entries starts firsts s → (n p q : ℕ) → q ≤ s.polygons
-    → lists n (cut (get_or starts (get_or firsts p 0) 0) (get_or starts (get_or firsts q 0) 0) entries) ≡ false → (r : ℕ) → p ≤ r → r < q → lists n (entriesOf (polygonAt entries starts firsts r)) ≡ false
+    → lists n (cut (get_or starts (get_or firsts p 0) 0) (get_or starts (get_or firsts q 0) 0) entries) ≡ false → (r : ℕ) → p ≤ r → r < q → lists n (entries_from (polygon_at entries starts firsts r)) ≡ false
 none-listed {entries = entries} {starts = starts} {firsts = firsts} {s = s} ld n p q w e r h g =
     let st = ld.layout in
-    let o : (a b : ℕ) → a ≤ b → b ≤ s.polygons → get_or firsts a 0 ≤ get_or firsts b 0 = firsts-ordered entries starts firsts s.polygons st in
+    let o : (a b : ℕ) → a ≤ b → b ≤ s.polygons → get_or firsts a 0 ≤ get_or firsts b 0 = firsts_ordered entries starts firsts s.polygons st in
     let m : get_or firsts q 0 ≤ get_or firsts s.polygons 0 = o q s.polygons w (omega arith) in
     let i : get_or starts (get_or firsts s.polygons 0) 0 ≤ 1024 = st.inside in
     let j : get_or starts (get_or firsts q 0) 0 ≤ get_or starts (get_or firsts s.polygons 0) 0 = st.ordered (get_or firsts q 0) (get_or firsts s.polygons 0) m (omega arith) in
@@ -71,7 +71,7 @@ module _ {A : Type 0} (f : ℕ → A → A) (d : A) (a : ℕ) where
   from_more l k h e =
       ap (λ (r : List A). set r k (f k (get_or r k d))) e
       ∙ ap (λ (x : A). set (upto (from a f) d l k) k x) (sym (from_is k h (get_or (upto (from a f) d l k) k d)))
-      ∙ upto-more (from a f) d l k
+      ∙ upto_more (from a f) d l k
 
   -- those below a before them: all below n
   pub from-joined : (l : List A) (n : ℕ) → a ≤ n → upto (from a f) d (upto f d l a) n ≡ upto f d l n
@@ -97,7 +97,7 @@ module _ (tolerance : ℕ) (points : List ℤ) (entries starts firsts : List ℕ
         }
 
     -- nothing is looked at where no ring of the span lists the point
-    pub looked-from-same : (m : ℕ) → ((r : ℕ) → a ≤ r → r < m → lists n (entriesOf (polygonAt entries starts firsts r)) ≡ false) → LookedFrom tolerance points entries starts firsts number n a m stamps findings parts stamps findings parts
+    pub looked-from-same : (m : ℕ) → ((r : ℕ) → a ≤ r → r < m → lists n (entries_from (polygon_at entries starts firsts r)) ≡ false) → LookedFrom tolerance points entries starts firsts number n a m stamps findings parts stamps findings parts
     looked-from-same m e =
         record {
           stamped = from-same (restamp entries starts firsts number n) 0 a stamps m (λ k h b. rw (e k h b));

@@ -6,18 +6,18 @@ use Rattle.std.proofs.lemmas.List.{set-get_or}
 use Rattle.whole.specs.Lists.{lists}
 use Rattle.whole.specs.held.Stored.{upto}
 use Rattle.whole.specs.laws.Stores.{length-upto}
-use Rattle.ring.specs.Polygon.{entriesOf}
-use Rattle.ring.specs.held.Rings.{polygonAt}
+use Rattle.ring.specs.Polygon.{entries_from}
+use Rattle.ring.specs.held.Rings.{polygon_at}
 use Rattle.renew.specs.held.Renewed.{Refreshed}
 use Rattle.moves.specs.held.Steps.{restamp, refind, repart, Touched, Looked}
 
 module _ (tolerance : ℕ) (points : List ℤ) (entries starts firsts : List ℕ) (number n : ℕ) where
   module _ {p : ℕ} {stamps findings : List ℕ} {parts : List ℤ} where
-    pub touched-yes : lists n (entriesOf (polygonAt entries starts firsts p)) ≡ true → {findings' : List ℕ} {parts' : List ℤ} → Refreshed tolerance points entries starts firsts p findings parts findings' parts'
+    pub touched-yes : lists n (entries_from (polygon_at entries starts firsts p)) ≡ true → {findings' : List ℕ} {parts' : List ℤ} → Refreshed tolerance points entries starts firsts p findings parts findings' parts'
         → Touched tolerance points entries starts firsts number n p stamps findings parts (set stamps p number) findings' parts'
     touched-yes t r = record { stamped = rw t; found = r.found ∙ rw t; summed = r.summed ∙ rw t }
 
-    pub touched-no : lists n (entriesOf (polygonAt entries starts firsts p)) ≡ false → Touched tolerance points entries starts firsts number n p stamps findings parts stamps findings parts
+    pub touched-no : lists n (entries_from (polygon_at entries starts firsts p)) ≡ false → Touched tolerance points entries starts firsts number n p stamps findings parts stamps findings parts
     touched-no t =
         record {
           stamped = rw t (sym (set-get_or stamps p 0));
@@ -26,9 +26,9 @@ module _ (tolerance : ℕ) (points : List ℤ) (entries starts firsts : List ℕ
         }
 
   module _ {stamps findings : List ℕ} {parts : List ℤ} where
-    pub looked-none : Looked tolerance points entries starts firsts number n 0 stamps findings parts stamps findings parts
+    pub looked_none : Looked tolerance points entries starts firsts number n 0 stamps findings parts stamps findings parts
     unfolding upto
-    looked-none = record { stamped = refl; found = refl; summed = refl }
+    looked_none = record { stamped = refl; found = refl; summed = refl }
 
     module _ {m : ℕ} {stamps' findings' : List ℕ} {parts' : List ℤ} (lo : Looked tolerance points entries starts firsts number n m stamps findings parts stamps' findings' parts') where
       pub looked-stamps : length stamps' ≡ length stamps

@@ -7,11 +7,11 @@ use mir.Syntax.{w64}
 use lib.Signed.{lt_z}
 use lib.IntN.{ℤ, pos}
 use lib.Dec.{T}
-use Rattle.whole.specs.laws.Mach.{Leaf, inner, node, asks, plain, seen-small}
-use Rattle.whole.specs.laws.Size.{call-is}
-use Rattle.whole.specs.Lists.{sameZ}
+use Rattle.whole.specs.laws.Mach.{Leaf, inner, node, asks, plain, seen_small}
+use Rattle.whole.specs.laws.Size.{call_is}
+use Rattle.whole.specs.Lists.{same_z}
 use Rattle.whole.specs.laws.Solve.{v, ◌⊕◌, ◌⊖◌, ◌⊗◌}
-use Rattle.plane.specs.Plane.{shareMore, turnOff, ahead}
+use Rattle.plane.specs.Plane.{share_more_of, turn_off_of, ahead}
 use Rattle.plane.specs.laws.Sizing.{zero_test}
 use Rattle.plane.specs.laws.Numbers.{ends}
 use Rattle.neighbours.proofs.share_more.Statement.{statement}
@@ -40,19 +40,19 @@ sub-s : tie.Need-overflow-sub-s
 sub-s c = asks w64 (leaves c) (v 7 ⊖ v 5) tt
 
 turn-off-requires : tie.Need-turn-off-requires
-turn-off-requires c κs = (seen-small (way c 2 0 tt) tt, seen-small (way c 3 1 tt) tt, seen-small (way c 6 4 tt) tt, seen-small (way c 7 5 tt) tt)
+turn-off-requires c κs = (seen_small (way c 2 0 tt) tt, seen_small (way c 3 1 tt) tt, seen_small (way c 6 4 tt) tt, seen_small (way c 7 5 tt) tt)
 
 ahead-requires : tie.Need-ahead-requires
-ahead-requires c κs = let d = c.before in (seen-small (way d 2 0 tt) tt, seen-small (way d 3 1 tt) tt, seen-small (way d 6 4 tt) tt, seen-small (way d 7 5 tt) tt)
+ahead-requires c κs = let d = c.before in (seen_small (way d 2 0 tt) tt, seen_small (way d 3 1 tt) tt, seen_small (way d 6 4 tt) tt, seen_small (way d 7 5 tt) tt)
 
 returns : tie.Need-returns
-unfolding shareMore turnOff ahead
+unfolding share_more_of turn_off_of ahead
 returns c =
     let d = c.before.before in
     let ways : List Leaf = way d 2 0 tt ∷ way d 3 1 tt ∷ way d 6 4 tt ∷ way d 7 5 tt ∷ [] in
     ap₂ ◌&&◌
-    (zero_test (record { sfits = c.before.turn-off.type-inv }) ∙ ap (λ (z : ℤ). sameZ z (pos 0)) (c.before.turn-off.ensures ∙ plain ways (v 0 ⊗ v 3 ⊖ v 1 ⊗ v 2)))
-    (ap (λ (z : ℤ). lt_z z (pos 0)) (call-is w64 c.ahead.type-inv (c.ahead.ensures ∙ plain ways (v 0 ⊗ v 2 ⊕ v 1 ⊗ v 3))))
+    (zero_test (record { sfits = c.before.turn-off.type-inv }) ∙ ap (λ (z : ℤ). same_z z (pos 0)) (c.before.turn-off.ensures ∙ plain ways (v 0 ⊗ v 3 ⊖ v 1 ⊗ v 2)))
+    (ap (λ (z : ℤ). lt_z z (pos 0)) (call_is w64 c.ahead.type-inv (c.ahead.ensures ∙ plain ways (v 0 ⊗ v 2 ⊕ v 1 ⊗ v 3))))
 
 pub share-more-spec : {M : Type 1} → statement M
 share-more-spec =

@@ -2,11 +2,11 @@
 use Rattle.std.specs.Prelude.{ℕ, ◌≡◌, Bool, List, ℤ}
 use Rattle.whole.specs.laws.Agree.{agree}
 use Rattle.plane.specs.declared.Edge.{Edge}
-use Rattle.plane.specs.Plane.{shareMore}
-use Rattle.plane.specs.held.Edges.{asSegment, edge_at}
+use Rattle.plane.specs.Plane.{share_more_of}
+use Rattle.plane.specs.held.Edges.{as_segment, edge_at}
 
-pub share-more-agrees : (e f : Edge) (r₁ r₂ : Bool) → r₁ ≡ shareMore (asSegment e) (asSegment f) → r₂ ≡ shareMore (asSegment e) (asSegment f) → r₁ ≡ r₂
-share-more-agrees e f r₁ r₂ = agree
+pub share_more_agrees : (e f : Edge) (r₁ r₂ : Bool) → r₁ ≡ share_more_of (as_segment e) (as_segment f) → r₂ ≡ share_more_of (as_segment e) (as_segment f) → r₁ ≡ r₂
+share_more_agrees e f r₁ r₂ = agree
 
-pub edge-at-agrees : (us vs : List ℤ) (i : ℕ) (r₁ r₂ : Edge) → asSegment r₁ ≡ edge_at us vs i → asSegment r₂ ≡ edge_at us vs i → r₁ ≡ r₂
-edge-at-agrees us vs i r₁ r₂ h k = λ j. record { au = (agree h k j).0.u; av = (agree h k j).0.v; bu = (agree h k j).1.u; bv = (agree h k j).1.v }
+pub edge_at_agrees : (us vs : List ℤ) (i : ℕ) (r₁ r₂ : Edge) → as_segment r₁ ≡ edge_at us vs i → as_segment r₂ ≡ edge_at us vs i → r₁ ≡ r₂
+edge_at_agrees us vs i r₁ r₂ h k = λ j. record { au = (agree h k j).0.u; av = (agree h k j).0.v; bu = (agree h k j).1.u; bv = (agree h k j).1.v }

@@ -6,20 +6,20 @@ use mir.Val.{to_z}
 use mir.Syntax.{w64}
 use lib.ListN.{length, get_or}
 use borrow.Author.Rules.{rules}
-use Rattle.whole.specs.laws.Sum.{acc-end}
+use Rattle.whole.specs.laws.Sum.{acc_end}
 use Rattle.whole.specs.laws.Mach.{asks}
 use Rattle.whole.specs.held.Small.{Small}
 use Rattle.whole.specs.laws.Solve.{v, ◌⊕◌}
-use Rattle.space.specs.held.Points.{at, asPoint, points_of}
-use Rattle.normal.specs.laws.Sums.{on, normalStep, Walk, normal-start, way-near, cross-next}
+use Rattle.space.specs.held.Points.{at, as_point, points_of}
+use Rattle.normal.specs.laws.Sums.{on, normal_step, Walk, normal_start, way-near, cross-next}
 use Rattle.space.specs.declared.Axis.TheVariants.{X, Y, Z}
 use Rattle.space.specs.declared.Axis.{Axis}
-use Rattle.space.specs.laws.Sums.{going_start, going_next, going-few, going-in, two, turn}
+use Rattle.space.specs.laws.Sums.{going_start, going_next, going_few, going_in, two, turn}
 use Rattle.normal.proofs.normal.Statement.{statement}
 use Rattle.normal.proofs.normal.Tie as tie
 
 abbrev invariant-loop : tie.invariant-loop
-invariant-loop points ring x₀ y₀ z₀ n first last₀ i₀ x y z last i = Walk points ring n first (asPoint last) i (to_z w64 x) (to_z w64 y) (to_z w64 z)
+invariant-loop points ring x₀ y₀ z₀ n first last₀ i₀ x y z last i = Walk points ring n first (as_point last) i (to_z w64 x) (to_z w64 y) (to_z w64 z)
 
 abbrev decreases-loop : tie.decreases-loop
 decreases-loop points ring x₀ y₀ z₀ n first last₀ i₀ x y z last i = n - i
@@ -40,7 +40,7 @@ loop-holds c =
       last = get_or r 0 0;
       going = going_start s.requires.1.0 refl (λ e. omega arith);
       reached = c.toward.ensures;
-      sums = record { on-x = normal-start p r X h; on-y = normal-start p r Y h; on-z = normal-start p r Z h };
+      sums = record { on-x = normal_start p r X h; on-y = normal_start p r Y h; on_z = normal_start p r Z h };
     }
 
 mul-toward : tie.Need-overflow-mul-toward invariant-loop decreases-loop
@@ -53,7 +53,7 @@ toward-requires-2 : tie.Need-toward-requires-2 invariant-loop decreases-loop
 toward-requires-2 c κs =
     let g = c.before.before.loop.invariant.going in
     let s = c.before.before.before.before.before.before in
-    (s.requires.0, (g.head-known, (going_next s.requires.1.0 g c.before.loop-test.true).last-known))
+    (s.requires.0, (g.head_known, (going_next s.requires.1.0 g c.before.loop-test.true).last_known))
 
 cross-requires : tie.Need-cross-requires invariant-loop decreases-loop
 cross-requires c κs =
@@ -73,20 +73,20 @@ abbrev turned : Step → tie.At-loop invariant-loop decreases-loop
 turned c = c.before.before.before.before.before.before.before
 
 added : (c : Step) (axis : Axis)
-    → (on axis (asPoint c.before.before.before.cross.result) ≡ normalStep (points_of (start c).args.points.now) (get_or (start c).args.ring.now 0 0) axis (turned c).loop.invariant.last (get_or (start c).args.ring.now (turned c).loop.i 0))
-    × Small 80000000000 (on axis (asPoint c.before.before.before.cross.result))
+    → (on axis (as_point c.before.before.before.cross.result) ≡ normal_step (points_of (start c).args.points.now) (get_or (start c).args.ring.now 0 0) axis (turned c).loop.invariant.last (get_or (start c).args.ring.now (turned c).loop.i 0))
+    × Small 80000000000 (on axis (as_point c.before.before.before.cross.result))
 added c axis =
     let w = (turned c).loop.invariant in
     cross-next (start c).requires.0 (start c).requires.1.0 w.going c.before.before.before.before.before.before.loop-test.true w.reached c.before.before.before.before.toward2.ensures c.before.before.before.cross.ensures axis
 
 add-x : tie.Need-overflow-add-x invariant-loop decreases-loop
-add-x c = let w = (turned c).loop.invariant in asks w64 (two (turned c).loop.x tt w.sums.on-x (going-few (start c).requires.1.0 w.going) (added c X).1) (v 0 ⊕ v 1) tt
+add-x c = let w = (turned c).loop.invariant in asks w64 (two (turned c).loop.x tt w.sums.on-x (going_few (start c).requires.1.0 w.going) (added c X).1) (v 0 ⊕ v 1) tt
 
 add-y : tie.Need-overflow-add-y invariant-loop decreases-loop
-add-y c = let w = (turned c).loop.invariant in asks w64 (two (turned c).loop.y tt w.sums.on-y (going-few (start c).requires.1.0 w.going) (added c Y).1) (v 0 ⊕ v 1) tt
+add-y c = let w = (turned c).loop.invariant in asks w64 (two (turned c).loop.y tt w.sums.on-y (going_few (start c).requires.1.0 w.going) (added c Y).1) (v 0 ⊕ v 1) tt
 
 add-z : tie.Need-overflow-add-z invariant-loop decreases-loop
-add-z c = let w = (turned c).loop.invariant in asks w64 (two (turned c).loop.z tt w.sums.on-z (going-few (start c).requires.1.0 w.going) (added c Z).1) (v 0 ⊕ v 1) tt
+add-z c = let w = (turned c).loop.invariant in asks w64 (two (turned c).loop.z tt w.sums.on_z (going_few (start c).requires.1.0 w.going) (added c Z).1) (v 0 ⊕ v 1) tt
 
 add-i : tie.Need-overflow-add-i invariant-loop decreases-loop
 add-i c = search rules
@@ -99,7 +99,7 @@ loop-again c =
     let w = (turned c).loop.invariant in
     let k = (start c).requires.1.0 in
     let t = c.before.before.before.before.before.before.loop-test.true in
-    let h = going-in w.going t in
+    let h = going_in w.going t in
     record {
       last = get_or (start c).args.ring.now (turned c).loop.i 0;
       going = going_next k w.going t;
@@ -107,7 +107,7 @@ loop-again c =
       sums = record {
         on-x = turn (turned c).loop.x tt tt w.sums.on-x h k.few _ (added c X).0 (added c X).1;
         on-y = turn (turned c).loop.y tt tt w.sums.on-y h k.few _ (added c Y).0 (added c Y).1;
-        on-z = turn (turned c).loop.z tt tt w.sums.on-z h k.few _ (added c Z).0 (added c Z).1;
+        on_z = turn (turned c).loop.z tt tt w.sums.on_z h k.few _ (added c Z).0 (added c Z).1;
       };
     }
 
@@ -115,7 +115,7 @@ returns : tie.Need-returns invariant-loop decreases-loop
 returns c =
     let w = c.before.loop.invariant in
     let e : c.before.loop.i ≡ length c.before.before.before.before.before.args.ring.now = omega (arith, w.going.all, w.going.upto, c.loop-test.false) in
-    λ j. at (acc-end w.sums.on-x e j) (acc-end w.sums.on-y e j) (acc-end w.sums.on-z e j)
+    λ j. at (acc_end w.sums.on-x e j) (acc_end w.sums.on-y e j) (acc_end w.sums.on_z e j)
 
 pub normal-spec : {M : Type 1} → statement M
 normal-spec =

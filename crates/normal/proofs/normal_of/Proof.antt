@@ -6,9 +6,9 @@ use lib.ListN.{get_or}
 use borrow.Author.Rules.{rules}
 use Rattle.space.specs.held.Points.{points_of}
 use Rattle.space.specs.Space.{plus}
-use Rattle.normal.specs.laws.Triangle.{triangle-normal}
-use Rattle.normal.specs.laws.Quad.{quad-normal}
-use Rattle.ring.specs.laws.Rings.{unclosed-is}
+use Rattle.normal.specs.laws.Triangle.{triangle_normal}
+use Rattle.normal.specs.laws.Quad.{quad_normal}
+use Rattle.ring.specs.laws.Rings.{unclosed_is}
 use Rattle.normal.specs.laws.Sums.{cross-of}
 use Rattle.normal.proofs.normal_of.Statement.{statement}
 use Rattle.normal.proofs.normal_of.Tie as tie
@@ -36,7 +36,7 @@ returns c =
     let l = s.args.ring.now in
     c.normal-of-three.ensures
     ∙ cross-of h (get_or l 0 0) (get_or l 1 0) (get_or l 2 0) (k.each 0 (omega arith)) (k.each 1 (omega arith)) (k.each 2 (omega arith)) refl refl
-    ∙ sym (triangle-normal (points_of s.args.points.now) l c.before.before.before.before.if2.true (unclosed-is c.before.before.before.before.before.before.is-closed.ensures (ap not c.before.before.before.before.before.if1.true)))
+    ∙ sym (triangle_normal (points_of s.args.points.now) l c.before.before.before.before.if2.true (unclosed_is c.before.before.before.before.before.before.is-closed.ensures (ap not c.before.before.before.before.before.if1.true)))
 
 shared-slice-read-a-2 : tie.Need-shared-slice-read-a-2
 shared-slice-read-a-2 c = search rules
@@ -63,7 +63,7 @@ returns-2 c =
     ∙ ap₂ plus
     (cross-of h (get_or l 0 0) (get_or l 1 0) (get_or l 2 0) (k.each 0 (omega arith)) (k.each 1 (omega arith)) (k.each 2 (omega arith)) refl refl)
     (cross-of h (get_or l 0 0) (get_or l 2 0) (get_or l 3 0) (k.each 0 (omega arith)) (k.each 2 (omega arith)) (k.each 3 (omega arith)) refl refl)
-    ∙ sym (quad-normal (points_of s.args.points.now) l c.before.before.before.before.before.if3.true (unclosed-is c.before.before.before.before.before.before.before.before.is-closed.ensures (ap not c.before.before.before.before.before.before.before.if1.true)))
+    ∙ sym (quad_normal (points_of s.args.points.now) l c.before.before.before.before.before.if3.true (unclosed_is c.before.before.before.before.before.before.before.before.is-closed.ensures (ap not c.before.before.before.before.before.before.before.if1.true)))
 
 normal-requires : tie.Need-normal-requires
 normal-requires c κs = search rules

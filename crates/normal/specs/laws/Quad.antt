@@ -5,9 +5,9 @@ use Rattle.std.proofs.Math.Path.{ap}
 use Rattle.std.proofs.lemmas.Bool.{not-false}
 use Rattle.std.proofs.Math.IntN.{pos}
 use Rattle.whole.specs.laws.Solve.{k, ◌⊕◌, ◌⊖◌, ◌⊗◌, ring, ◌≔◌}
-use Rattle.whole.specs.Lists.{steps, stepsFrom, last_of}
-use Rattle.space.specs.Space.{Point, origin, plus, relativeTo, cross, places}
-use Rattle.ring.specs.Entries.{isUnclosed}
+use Rattle.whole.specs.Lists.{steps, steps_from, last_of}
+use Rattle.space.specs.Space.{Point, origin, plus, relative_to, cross, places}
+use Rattle.ring.specs.Entries.{is_unclosed}
 use Rattle.normal.specs.Normal.{relative, normal}
 use Rattle.space.specs.held.Points.{at}
 
@@ -18,12 +18,12 @@ square a b c d = a ∷ b ∷ c ∷ d ∷ a ∷ []
 -- ---- N of four corners
 module _ (a b c d : Point) where
   abbrev pub sum : Point
-  sum = plus (cross (relativeTo a b) (relativeTo a c)) (cross (relativeTo a c) (relativeTo a d))
+  sum = plus (cross (relative_to a b) (relative_to a c)) (cross (relative_to a c) (relative_to a d))
 
   -- the two steps from the first point and to it add nothing
-  normal-is : normal (square a b c d) ≡ sum
-  unfolding normal relative steps stepsFrom relativeTo cross plus origin
-  normal-is =
+  normal_is : normal (square a b c d) ≡ sum
+  unfolding normal relative steps steps_from relative_to cross plus origin
+  normal_is =
       λ i. at (go a.y a.z b.y b.z c.y c.z d.y d.z i) (go a.z a.x b.z b.x c.z c.x d.z d.x i) (go a.x a.y b.x b.y c.x c.y d.x d.y i)
     where
       go : (p q r s t w x y : ℤ) →
@@ -34,17 +34,17 @@ module _ (a b c d : Point) where
           ≔ ((r ⊖ p) ⊗ (w ⊖ q) ⊖ (s ⊖ q) ⊗ (t ⊖ p)) ⊕ ((t ⊖ p) ⊗ (y ⊖ q) ⊖ (w ⊖ q) ⊗ (x ⊖ p))) tt
 
 -- ---- a closed ring of five entries
-ring-four : (ring : List ℕ) → length ring ≡ 5 → isUnclosed ring ≡ false → ring ≡ square (get_or ring 0 0) (get_or ring 1 0) (get_or ring 2 0) (get_or ring 3 0)
-unfolding isUnclosed last_of
-ring-four [] e f = absurd (omega arith)
-ring-four (a ∷ []) e f = absurd (omega arith)
-ring-four (a ∷ b ∷ []) e f = absurd (omega arith)
-ring-four (a ∷ b ∷ c ∷ []) e f = absurd (omega arith)
-ring-four (a ∷ b ∷ c ∷ d ∷ []) e f = absurd (omega arith)
-ring-four (a ∷ b ∷ c ∷ d ∷ x ∷ []) e f = ap (λ (y : ℕ). a ∷ b ∷ c ∷ d ∷ y ∷ []) (sym (eqb-true a x (not-false (eqb a x) f)))
-ring-four (a ∷ b ∷ c ∷ d ∷ x ∷ y ∷ l) e f = absurd (omega arith)
+ring_four : (ring : List ℕ) → length ring ≡ 5 → is_unclosed ring ≡ false → ring ≡ square (get_or ring 0 0) (get_or ring 1 0) (get_or ring 2 0) (get_or ring 3 0)
+unfolding is_unclosed last_of
+ring_four [] e f = absurd (omega arith)
+ring_four (a ∷ []) e f = absurd (omega arith)
+ring_four (a ∷ b ∷ []) e f = absurd (omega arith)
+ring_four (a ∷ b ∷ c ∷ []) e f = absurd (omega arith)
+ring_four (a ∷ b ∷ c ∷ d ∷ []) e f = absurd (omega arith)
+ring_four (a ∷ b ∷ c ∷ d ∷ x ∷ []) e f = ap (λ (y : ℕ). a ∷ b ∷ c ∷ d ∷ y ∷ []) (sym (eqb-true a x (not-false (eqb a x) f)))
+ring_four (a ∷ b ∷ c ∷ d ∷ x ∷ y ∷ l) e f = absurd (omega arith)
 
-module _ (points : List Point) (ring : List ℕ) (five : length ring ≡ 5) (closed : isUnclosed ring ≡ false) where
+module _ (points : List Point) (ring : List ℕ) (five : length ring ≡ 5) (closed : is_unclosed ring ≡ false) where
   abbrev ps : List Point
   ps = places points ring
 
@@ -54,8 +54,8 @@ module _ (points : List Point) (ring : List ℕ) (five : length ring ≡ 5) (clo
 
   pub places-four : ps ≡ square (place_of 0) (place_of 1) (place_of 2) (place_of 3)
   unfolding places
-  places-four = ap (places points) (ring-four ring five closed)
+  places-four = ap (places points) (ring_four ring five closed)
 
   -- N is the sum of two cross products
-  pub quad-normal : normal ps ≡ sum (place_of 0) (place_of 1) (place_of 2) (place_of 3)
-  quad-normal = ap normal places-four ∙ normal-is (place_of 0) (place_of 1) (place_of 2) (place_of 3)
+  pub quad_normal : normal ps ≡ sum (place_of 0) (place_of 1) (place_of 2) (place_of 3)
+  quad_normal = ap normal places-four ∙ normal_is (place_of 0) (place_of 1) (place_of 2) (place_of 3)

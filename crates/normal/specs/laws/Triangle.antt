@@ -5,9 +5,9 @@ use Rattle.std.proofs.Math.Path.{ap}
 use Rattle.std.proofs.lemmas.Bool.{not-false}
 use Rattle.std.proofs.Math.IntN.{pos}
 use Rattle.whole.specs.laws.Solve.{k, ◌⊕◌, ◌⊖◌, ◌⊗◌, ring, ◌≔◌}
-use Rattle.whole.specs.Lists.{steps, stepsFrom, last_of}
-use Rattle.space.specs.Space.{Point, origin, plus, relativeTo, cross, places}
-use Rattle.ring.specs.Entries.{isUnclosed}
+use Rattle.whole.specs.Lists.{steps, steps_from, last_of}
+use Rattle.space.specs.Space.{Point, origin, plus, relative_to, cross, places}
+use Rattle.ring.specs.Entries.{is_unclosed}
 use Rattle.normal.specs.Normal.{relative, normal}
 use Rattle.space.specs.held.Points.{at}
 
@@ -18,9 +18,9 @@ round a b c = a ∷ b ∷ c ∷ a ∷ []
 -- ---- N of a triangle
 module _ (a b c : Point) where
   -- the two steps from the first point and to it add nothing
-  pub normal-is : normal (round a b c) ≡ cross (relativeTo a b) (relativeTo a c)
-  unfolding normal relative steps stepsFrom relativeTo cross plus origin
-  normal-is =
+  pub normal_is : normal (round a b c) ≡ cross (relative_to a b) (relative_to a c)
+  unfolding normal relative steps steps_from relative_to cross plus origin
+  normal_is =
       λ i. at (go a.y a.z b.y b.z c.y c.z i) (go a.z a.x b.z b.x c.z c.x i) (go a.x a.y b.x b.y c.x c.y i)
     where
       go : (p q r s t w : ℤ) →
@@ -31,16 +31,16 @@ module _ (a b c : Point) where
           ≔ (r ⊖ p) ⊗ (w ⊖ q) ⊖ (s ⊖ q) ⊗ (t ⊖ p)) tt
 
 -- ---- a closed ring of four entries
-pub ring-three : (ring : List ℕ) → length ring ≡ 4 → isUnclosed ring ≡ false → ring ≡ round (get_or ring 0 0) (get_or ring 1 0) (get_or ring 2 0)
-unfolding isUnclosed last_of
-ring-three [] e f = absurd (omega arith)
-ring-three (a ∷ []) e f = absurd (omega arith)
-ring-three (a ∷ b ∷ []) e f = absurd (omega arith)
-ring-three (a ∷ b ∷ c ∷ []) e f = absurd (omega arith)
-ring-three (a ∷ b ∷ c ∷ d ∷ []) e f = ap (λ (x : ℕ). a ∷ b ∷ c ∷ x ∷ []) (sym (eqb-true a d (not-false (eqb a d) f)))
-ring-three (a ∷ b ∷ c ∷ d ∷ x ∷ l) e f = absurd (omega arith)
+pub ring_three : (ring : List ℕ) → length ring ≡ 4 → is_unclosed ring ≡ false → ring ≡ round (get_or ring 0 0) (get_or ring 1 0) (get_or ring 2 0)
+unfolding is_unclosed last_of
+ring_three [] e f = absurd (omega arith)
+ring_three (a ∷ []) e f = absurd (omega arith)
+ring_three (a ∷ b ∷ []) e f = absurd (omega arith)
+ring_three (a ∷ b ∷ c ∷ []) e f = absurd (omega arith)
+ring_three (a ∷ b ∷ c ∷ d ∷ []) e f = ap (λ (x : ℕ). a ∷ b ∷ c ∷ x ∷ []) (sym (eqb-true a d (not-false (eqb a d) f)))
+ring_three (a ∷ b ∷ c ∷ d ∷ x ∷ l) e f = absurd (omega arith)
 
-module _ (points : List Point) (ring : List ℕ) (four : length ring ≡ 4) (closed : isUnclosed ring ≡ false) where
+module _ (points : List Point) (ring : List ℕ) (four : length ring ≡ 4) (closed : is_unclosed ring ≡ false) where
   abbrev ps : List Point
   ps = places points ring
 
@@ -50,8 +50,8 @@ module _ (points : List Point) (ring : List ℕ) (four : length ring ≡ 4) (clo
 
   pub places-three : ps ≡ round (spot_of 0) (spot_of 1) (spot_of 2)
   unfolding places
-  places-three = ap (places points) (ring-three ring four closed)
+  places-three = ap (places points) (ring_three ring four closed)
 
   -- N is one cross product
-  pub triangle-normal : normal ps ≡ cross (relativeTo (spot_of 0) (spot_of 1)) (relativeTo (spot_of 0) (spot_of 2))
-  triangle-normal = ap normal places-three ∙ normal-is (spot_of 0) (spot_of 1) (spot_of 2)
+  pub triangle_normal : normal ps ≡ cross (relative_to (spot_of 0) (spot_of 1)) (relative_to (spot_of 0) (spot_of 2))
+  triangle_normal = ap normal places-three ∙ normal_is (spot_of 0) (spot_of 1) (spot_of 2)

@@ -4,12 +4,12 @@ use mathlib.Core.Bool.{◌||◌}
 use lib.IntN.{ℤ, pos, negsuc}
 use lib.Signed.{lt_z}
 use mir.Facts.{to_z-of_z}
-use Rattle.places.specs.laws.Places.{beyond-is}
+use Rattle.places.specs.laws.Places.{beyond_is}
 use Rattle.places.proofs.beyond.Statement.{statement}
 use Rattle.places.proofs.beyond.Tie as tie
 
 returns : tie.Need-returns
-returns c = ap (λ (z : ℤ). lt_z z (negsuc 99999) || lt_z (pos 100000) z) (to_z-of_z c.ranges.x) ∙ beyond-is c.args.x
+returns c = ap (λ (z : ℤ). lt_z z (negsuc 99999) || lt_z (pos 100000) z) (to_z-of_z c.ranges.x) ∙ beyond_is c.args.x
 
 pub beyond-spec : {M : Type 1} → statement M
 beyond-spec = tie.close (tie.spec returns)

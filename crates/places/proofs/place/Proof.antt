@@ -3,7 +3,7 @@ use Prim.Native.Nat.{◌+◌, ◌*◌}
 use mathlib.Core.Path.{◌∙◌}
 use lib.ListN.{set}
 use mir.Syntax.{w32, w64}
-use Rattle.whole.specs.laws.Size.{small-back, back-small, call-is}
+use Rattle.whole.specs.laws.Size.{small_back, back_small, call_is}
 use Rattle.places.specs.held.Places.{point3}
 use Rattle.places.specs.laws.Near.{near-place}
 use borrow.Author.Rules.{rules}
@@ -14,13 +14,13 @@ mul-i : tie.Need-overflow-mul-i
 mul-i c = search rules
 
 narrow-requires : tie.Need-narrow-requires
-narrow-requires c κs = back-small w64 tt (near-place (point3 c.args.x c.args.y c.args.z) c.requires.1).x
+narrow-requires c κs = back_small w64 tt (near-place (point3 c.args.x c.args.y c.args.z) c.requires.1).x
 
 narrow-requires-2 : tie.Need-narrow-requires-2
-narrow-requires-2 c κs = back-small w64 tt (near-place (point3 c.before.args.x c.before.args.y c.before.args.z) c.before.requires.1).y
+narrow-requires-2 c κs = back_small w64 tt (near-place (point3 c.before.args.x c.before.args.y c.before.args.z) c.before.requires.1).y
 
 narrow-requires-3 : tie.Need-narrow-requires-3
-narrow-requires-3 c κs = back-small w64 tt (near-place (point3 c.before.before.args.x c.before.before.args.y c.before.before.args.z) c.before.before.requires.1).z
+narrow-requires-3 c κs = back_small w64 tt (near-place (point3 c.before.before.args.x c.before.before.args.y c.before.before.args.z) c.before.before.requires.1).z
 
 mul-a : tie.Need-overflow-mul-a
 mul-a c = search rules
@@ -53,11 +53,11 @@ returns c =
     let i = 3 * s.args.n in
     λ k. set
     (set
-    (set s.args.points.now i (call-is w32 c.before.before.narrow.type-inv (c.before.before.narrow.ensures ∙ small-back w64 tt near.x) k))
+    (set s.args.points.now i (call_is w32 c.before.before.narrow.type-inv (c.before.before.narrow.ensures ∙ small_back w64 tt near.x) k))
     (i + 1)
-    (call-is w32 c.before.narrow2.type-inv (c.before.narrow2.ensures ∙ small-back w64 tt near.y) k))
+    (call_is w32 c.before.narrow2.type-inv (c.before.narrow2.ensures ∙ small_back w64 tt near.y) k))
     (i + 2)
-    (call-is w32 c.narrow3.type-inv (c.narrow3.ensures ∙ small-back w64 tt near.z) k)
+    (call_is w32 c.narrow3.type-inv (c.narrow3.ensures ∙ small_back w64 tt near.z) k)
 
 pub place-spec : {M : Type 1} → statement M
 place-spec =

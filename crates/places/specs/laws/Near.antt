@@ -4,16 +4,16 @@ use Rattle.std.proofs.Common.{arith, ◌∙◌, ltb-false, length-set, get_or-se
 use Rattle.std.specs.Int.{w64}
 use Rattle.whole.specs.laws.Bools.{none_of}
 use Rattle.whole.specs.held.Small.{Small}
-use Rattle.whole.specs.laws.Size.{small-back}
+use Rattle.whole.specs.laws.Size.{small_back}
 use Rattle.whole.specs.laws.Stores.{all_set}
 use Rattle.space.specs.Space.{Point}
-use Rattle.space.specs.held.Points.{points_of, placeAt, Coords}
-use Rattle.space.specs.laws.Points.{pointsOf-set}
-use Rattle.places.specs.Points.{isFar}
+use Rattle.space.specs.held.Points.{points_of, place_at, Coords}
+use Rattle.space.specs.laws.Points.{points_of-set}
+use Rattle.places.specs.Points.{is_far_of}
 use Rattle.places.specs.held.Places.{point3, placed, NearPlace}
 
-pub near-place : (p : Point) → isFar p ≡ false → NearPlace p
-unfolding isFar
+pub near-place : (p : Point) → is_far_of p ≡ false → NearPlace p
+unfolding is_far_of
 near-place p e =
     let n = none_of (ltb 100000 (nat_abs p.x)) (ltb 100000 (nat_abs p.y)) (ltb 100000 (nat_abs p.z)) e in
     record {
@@ -23,18 +23,18 @@ near-place p e =
     }
 
 -- as the machine reads it
-pub near-bits : (x y z : ℤ) → isFar (point3 x y z) ≡ false → point3 (to_z w64 (of_z w64 x)) (to_z w64 (of_z w64 y)) (to_z w64 (of_z w64 z)) ≡ point3 x y z
+pub near-bits : (x y z : ℤ) → is_far_of (point3 x y z) ≡ false → point3 (to_z w64 (of_z w64 x)) (to_z w64 (of_z w64 y)) (to_z w64 (of_z w64 z)) ≡ point3 x y z
 near-bits x y z e i =
     let n : NearPlace (point3 x y z) = near-place (point3 x y z) e in
-    point3 (small-back w64 tt n.x i) (small-back w64 tt n.y i) (small-back w64 tt n.z i)
+    point3 (small_back w64 tt n.x i) (small_back w64 tt n.y i) (small_back w64 tt n.z i)
 
 -- ---- the flat table with a point at another place
 module _ (points : List ℤ) (n : ℕ) (p : Point) where
   pub placed-points : 3 * n + 2 < length points → points_of (placed points n p) ≡ set (points_of points) n p
-  placed-points h = pointsOf-set points n p.x p.y p.z h
+  placed-points h = points_of-set points n p.x p.y p.z h
 
-  pub placed-coords : Coords points → NearPlace p → Coords (placed points n p)
-  placed-coords co near =
+  pub placed_coords : Coords points → NearPlace p → Coords (placed points n p)
+  placed_coords co near =
       record {
         room = length-set (set (set points (3 * n) p.x) (3 * n + 1) p.y) (3 * n + 2) p.z ∙ length-set (set points (3 * n) p.x) (3 * n + 1) p.y ∙ length-set points (3 * n) p.x ∙ co.room;
         small = λ i.
@@ -44,20 +44,20 @@ module _ (points : List ℤ) (n : ℕ) (p : Point) where
       }
 
   -- the other numbers are as they were
-  placed-else : (j : ℕ) → (j ≡ 3 * n → ⊥) → (j ≡ 3 * n + 1 → ⊥) → (j ≡ 3 * n + 2 → ⊥) → get_or (placed points n p) j (pos 0) ≡ get_or points j (pos 0)
-  placed-else j e f g =
+  placed_else : (j : ℕ) → (j ≡ 3 * n → ⊥) → (j ≡ 3 * n + 1 → ⊥) → (j ≡ 3 * n + 2 → ⊥) → get_or (placed points n p) j (pos 0) ≡ get_or points j (pos 0)
+  placed_else j e f g =
       get_or-set_other (set (set points (3 * n) p.x) (3 * n + 1) p.y) (3 * n + 2) j p.z (pos 0) g
       ∙ get_or-set_other (set points (3 * n) p.x) (3 * n + 1) j p.y (pos 0) f
       ∙ get_or-set_other points (3 * n) j p.x (pos 0) e
 
-  pub placed-other : (i : ℕ) → (i ≡ n → ⊥) → placeAt (placed points n p) i ≡ placeAt points i
-  placed-other i h =
-      let x = placed-else (3 * i) (λ e. h (omega arith)) (λ e. omega arith) (λ e. omega arith) in
-      let y = placed-else (3 * i + 1) (λ e. omega arith) (λ e. h (omega arith)) (λ e. omega arith) in
-      let z = placed-else (3 * i + 2) (λ e. omega arith) (λ e. omega arith) (λ e. h (omega arith)) in
+  pub placed_other : (i : ℕ) → (i ≡ n → ⊥) → place_at (placed points n p) i ≡ place_at points i
+  placed_other i h =
+      let x = placed_else (3 * i) (λ e. h (omega arith)) (λ e. omega arith) (λ e. omega arith) in
+      let y = placed_else (3 * i + 1) (λ e. omega arith) (λ e. h (omega arith)) (λ e. omega arith) in
+      let z = placed_else (3 * i + 2) (λ e. omega arith) (λ e. omega arith) (λ e. h (omega arith)) in
       λ k. point3 (x k) (y k) (z k)
 
-  pub placed-own : 3 * n + 2 < length points → placeAt (placed points n p) n ≡ p
+  pub placed-own : 3 * n + 2 < length points → place_at (placed points n p) n ≡ p
   placed-own h =
       let a : List ℤ = set points (3 * n) p.x in
       let b : List ℤ = set a (3 * n + 1) p.y in

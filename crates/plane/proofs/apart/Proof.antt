@@ -5,9 +5,9 @@ use mir.Facts.{to_z-of_z}
 use mir.Syntax.{w64}
 use lib.Signed.{lt_z}
 use borrow.Author.Rules.{rules}
-use Rattle.whole.specs.laws.Size.{call-is}
+use Rattle.whole.specs.laws.Size.{call_is}
 use Rattle.plane.specs.held.Edges.{least, most}
-use Rattle.plane.specs.laws.Stretches.{apart-is}
+use Rattle.plane.specs.laws.Stretches.{apart_is}
 use Rattle.plane.proofs.apart.Statement.{statement}
 use Rattle.plane.proofs.apart.Tie as tie
 
@@ -21,10 +21,10 @@ returns : tie.Need-returns
 returns c =
     let f = c.before.before.ranges in
     let a = c.before.before.args in
-    let lo = call-is w64 c.before.lower.type-inv (c.before.lower.ensures ∙ ap₂ least (to_z-of_z f.p) (to_z-of_z f.q)) in
-    let hi = call-is w64 c.upper.type-inv (c.upper.ensures ∙ ap₂ most (to_z-of_z f.p) (to_z-of_z f.q)) in
+    let lo = call_is w64 c.before.lower.type-inv (c.before.lower.ensures ∙ ap₂ least (to_z-of_z f.p) (to_z-of_z f.q)) in
+    let hi = call_is w64 c.upper.type-inv (c.upper.ensures ∙ ap₂ most (to_z-of_z f.p) (to_z-of_z f.q)) in
     (λ i. lt_z (hi i) (to_z-of_z f.c i) && lt_z (hi i) (to_z-of_z f.d i) || lt_z (to_z-of_z f.c i) (lo i) && lt_z (to_z-of_z f.d i) (lo i))
-    ∙ apart-is a.p a.q a.c a.d
+    ∙ apart_is a.p a.q a.c a.d
 
 pub apart-spec : {M : Type 1} → statement M
 apart-spec = tie.close (tie.spec lower-requires upper-requires returns)

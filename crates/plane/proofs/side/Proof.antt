@@ -11,7 +11,7 @@ use Rattle.plane.proofs.side.Tie as tie
 abbrev leaves : tie.Start → List Leaf
 leaves c =
     let h = c.requires in
-    whole w64 tt h.0.on-u ∷ whole w64 tt h.0.on-v ∷ whole w64 tt h.1.on-u ∷ whole w64 tt h.1.on-v ∷ whole w64 tt h.2.on-u ∷ whole w64 tt h.2.on-v ∷ []
+    whole w64 tt h.0.on_u ∷ whole w64 tt h.0.on-v ∷ whole w64 tt h.1.on_u ∷ whole w64 tt h.1.on-v ∷ whole w64 tt h.2.on_u ∷ whole w64 tt h.2.on-v ∷ []
 
 sub-result : tie.Need-overflow-sub-result
 sub-result c = asks w64 (leaves c) (v 2 ⊖ v 0) tt

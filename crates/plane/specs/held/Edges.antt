@@ -17,12 +17,12 @@ abbrev pub spot : ℤ → ℤ → Spot
 spot u v = record { u = u; v = v }
 
 -- the segment that code holds as an `Edge`
-abbrev pub asSegment : Edge → Segment
-asSegment e = (spot e.au e.av, spot e.bu e.bv)
+abbrev pub as_segment : Edge → Segment
+as_segment e = (spot e.au e.av, spot e.bu e.bv)
 
 -- a place whose numbers are coordinates
 pub record Close (p : Spot) : Type 0 where
-  pub on-u : Small 100000 p.u
+  pub on_u : Small 100000 p.u
   pub on-v : Small 100000 p.v
 
 pub record Ends (e : Segment) : Type 0 where

@@ -4,19 +4,19 @@ use Rattle.std.proofs.Math.Path.{ap, ap₂}
 use Rattle.std.proofs.Math.Bool.{cond}
 use Rattle.space.specs.declared.Axis.TheVariants.{X, Y, Z}
 use Rattle.space.specs.Space.{Point}
-use Rattle.plane.specs.Plane.{largestAxis}
+use Rattle.plane.specs.Plane.{largest_axis_of}
 
 module _ (n : Point) where
-  pub axis-x : (leb (nat_abs n.y) (nat_abs n.x) && leb (nat_abs n.z) (nat_abs n.x)) ≡ true → largestAxis n ≡ X
-  unfolding largestAxis
+  pub axis-x : (leb (nat_abs n.y) (nat_abs n.x) && leb (nat_abs n.z) (nat_abs n.x)) ≡ true → largest_axis_of n ≡ X
+  unfolding largest_axis_of
   axis-x e = ap (λ (t : Bool). cond t X (cond (leb (nat_abs n.z) (nat_abs n.y)) Y Z)) e
 
-  axis-rest : (leb (nat_abs n.y) (nat_abs n.x) && leb (nat_abs n.z) (nat_abs n.x)) ≡ false → {t : Bool} → leb (nat_abs n.z) (nat_abs n.y) ≡ t → largestAxis n ≡ cond t Y Z
-  unfolding largestAxis
+  axis-rest : (leb (nat_abs n.y) (nat_abs n.x) && leb (nat_abs n.z) (nat_abs n.x)) ≡ false → {t : Bool} → leb (nat_abs n.z) (nat_abs n.y) ≡ t → largest_axis_of n ≡ cond t Y Z
+  unfolding largest_axis_of
   axis-rest e f = ap₂ (λ (t u : Bool). cond t X (cond u Y Z)) e f
 
-  pub axis-y : (leb (nat_abs n.y) (nat_abs n.x) && leb (nat_abs n.z) (nat_abs n.x)) ≡ false → leb (nat_abs n.z) (nat_abs n.y) ≡ true → largestAxis n ≡ Y
+  pub axis-y : (leb (nat_abs n.y) (nat_abs n.x) && leb (nat_abs n.z) (nat_abs n.x)) ≡ false → leb (nat_abs n.z) (nat_abs n.y) ≡ true → largest_axis_of n ≡ Y
   axis-y e f = axis-rest e f
 
-  pub axis-z : (leb (nat_abs n.y) (nat_abs n.x) && leb (nat_abs n.z) (nat_abs n.x)) ≡ false → leb (nat_abs n.z) (nat_abs n.y) ≡ false → largestAxis n ≡ Z
-  axis-z e f = axis-rest e f
+  pub axis_z : (leb (nat_abs n.y) (nat_abs n.x) && leb (nat_abs n.z) (nat_abs n.x)) ≡ false → leb (nat_abs n.z) (nat_abs n.y) ≡ false → largest_axis_of n ≡ Z
+  axis_z e f = axis-rest e f

@@ -7,7 +7,7 @@ use Rattle.whole.specs.laws.Solve.{v, k, ◌⊕◌, ◌⊖◌, ◌⊗◌, ring, 
 use Rattle.whole.specs.laws.Linear.{◌≼◌, ◌⇒◌, lin}
 use Rattle.plane.specs.Plane.{Segment, share}
 use Rattle.plane.specs.laws.Meet.{Meet}
-use Rattle.plane.specs.laws.Share.{share-exactly}
+use Rattle.plane.specs.laws.Share.{share_exactly}
 
 -- d times the number that is reached when s parts of d are gone on the way from p to q
 abbrev pub along : ℤ → ℤ → ℤ → ℤ → ℤ
@@ -19,10 +19,10 @@ pub record CommonPoint (e f : Segment) : Type 0 where
   pub t : ℤ
   pub positive : pos 0 <ℤ d
   pub s-low : pos 0 ≤ℤ s
-  pub s-top : s ≤ℤ d
-  pub t-low : pos 0 ≤ℤ t
-  pub t-top : t ≤ℤ d
-  pub same-u : along d s e.0.u e.1.u ≡ along d t f.0.u f.1.u
+  pub s_top : s ≤ℤ d
+  pub t_low : pos 0 ≤ℤ t
+  pub t_top : t ≤ℤ d
+  pub same_u : along d s e.0.u e.1.u ≡ along d t f.0.u f.1.u
   pub same-v : along d s e.0.v e.1.v ≡ along d t f.0.v f.1.v
 
 -- ---- from the weights of Meet: s' + s is d
@@ -40,10 +40,10 @@ common e f m =
       t = pos m.t;
       positive = lt_z_yes (lt→ltb 0 (m.s' + m.s) m.some);
       s-low = le_of 0 m.s (omega arith);
-      s-top = le_of m.s (m.s' + m.s) (omega arith);
-      t-low = le_of 0 m.t (omega arith);
-      t-top = le_of m.t (m.s' + m.s) (omega (arith, m.whole));
-      same-u = on e.0.u e.1.u f.0.u f.1.u m.on-u;
+      s_top = le_of m.s (m.s' + m.s) (omega arith);
+      t_low = le_of 0 m.t (omega arith);
+      t_top = le_of m.t (m.s' + m.s) (omega (arith, m.whole));
+      same_u = on e.0.u e.1.u f.0.u f.1.u m.on_u;
       same-v = on e.0.v e.1.v f.0.v f.1.v m.on-v;
     }
   where
@@ -63,23 +63,23 @@ module _ (e f : Segment) (c : CommonPoint e f) where
   both : (d s : ℤ) → (d -ℤ s) +ℤ s ≡ d
   both = ring 2 (λ d s. (d ⊖ s) ⊕ s ≔ d) tt
 
-  s-is : pos (nat_abs c.s) ≡ c.s
-  s-is = natural c.s c.s-low
+  s_is : pos (nat_abs c.s) ≡ c.s
+  s_is = natural c.s c.s-low
 
-  t-is : pos (nat_abs c.t) ≡ c.t
-  t-is = natural c.t c.t-low
+  t_is : pos (nat_abs c.t) ≡ c.t
+  t_is = natural c.t c.t_low
 
-  s'-is : pos (nat_abs (c.d -ℤ c.s)) ≡ c.d -ℤ c.s
-  s'-is = natural (c.d -ℤ c.s) (left c.d c.s c.s-top)
+  s'_is : pos (nat_abs (c.d -ℤ c.s)) ≡ c.d -ℤ c.s
+  s'_is = natural (c.d -ℤ c.s) (left c.d c.s c.s_top)
 
-  t'-is : pos (nat_abs (c.d -ℤ c.t)) ≡ c.d -ℤ c.t
-  t'-is = natural (c.d -ℤ c.t) (left c.d c.t c.t-top)
+  t'_is : pos (nat_abs (c.d -ℤ c.t)) ≡ c.d -ℤ c.t
+  t'_is = natural (c.d -ℤ c.t) (left c.d c.t c.t_top)
 
   s-all : pos (nat_abs (c.d -ℤ c.s) + nat_abs c.s) ≡ c.d
-  s-all = ap₂ ◌+ℤ◌ s'-is s-is ∙ both c.d c.s
+  s-all = ap₂ ◌+ℤ◌ s'_is s_is ∙ both c.d c.s
 
-  t-all : pos (nat_abs (c.d -ℤ c.t) + nat_abs c.t) ≡ c.d
-  t-all = ap₂ ◌+ℤ◌ t'-is t-is ∙ both c.d c.t
+  t_all : pos (nat_abs (c.d -ℤ c.t) + nat_abs c.t) ≡ c.d
+  t_all = ap₂ ◌+ℤ◌ t'_is t_is ∙ both c.d c.t
 
   spread : (d s p q : ℤ) → (d -ℤ s) *ℤ p +ℤ s *ℤ q ≡ along d s p q
   spread = ring 4 (λ d s p q. (d ⊖ s) ⊗ p ⊕ s ⊗ q ≔ d ⊗ p ⊕ s ⊗ (q ⊖ p)) tt
@@ -91,7 +91,7 @@ module _ (e f : Segment) (c : CommonPoint e f) where
   weighed : (p q r z : ℤ) → along c.d c.s p q ≡ along c.d c.t r z
       → pos (nat_abs (c.d -ℤ c.s)) *ℤ p +ℤ pos (nat_abs c.s) *ℤ q ≡ pos (nat_abs (c.d -ℤ c.t)) *ℤ r +ℤ pos (nat_abs c.t) *ℤ z
   weighed p q r z h =
-      ap₂ (λ (x y : ℤ). x *ℤ p +ℤ y *ℤ q) s'-is s-is ∙ spread c.d c.s p q ∙ h ∙ sym (spread c.d c.t r z) ∙ sym (ap₂ (λ (x y : ℤ). x *ℤ r +ℤ y *ℤ z) t'-is t-is)
+      ap₂ (λ (x y : ℤ). x *ℤ p +ℤ y *ℤ q) s'_is s_is ∙ spread c.d c.s p q ∙ h ∙ sym (spread c.d c.t r z) ∙ sym (ap₂ (λ (x y : ℤ). x *ℤ r +ℤ y *ℤ z) t'_is t_is)
 
   meet : Meet e f
   meet =
@@ -101,11 +101,11 @@ module _ (e f : Segment) (c : CommonPoint e f) where
         t = nat_abs c.t;
         t' = nat_abs (c.d -ℤ c.t);
         some = above_zero (nat_abs (c.d -ℤ c.s) + nat_abs c.s) (subst (λ (z : ℤ). pos 0 <ℤ z) (sym s-all) c.positive);
-        whole = ap nat_abs (s-all ∙ sym t-all);
-        on-u = weighed e.0.u e.1.u f.0.u f.1.u c.same-u;
+        whole = ap nat_abs (s-all ∙ sym t_all);
+        on_u = weighed e.0.u e.1.u f.0.u f.1.u c.same_u;
         on-v = weighed e.0.v e.1.v f.0.v f.1.v c.same-v;
       }
 
 -- two segments share a point exactly when the test says so
-pub share-is : (e f : Segment) → (share e f ≡ true → CommonPoint e f) × (CommonPoint e f → share e f ≡ true)
-share-is e f = (λ h. common e f ((share-exactly e f).0 h), λ c. (share-exactly e f).1 (meet e f c))
+pub share_is : (e f : Segment) → (share e f ≡ true → CommonPoint e f) × (CommonPoint e f → share e f ≡ true)
+share_is e f = (λ h. common e f ((share_exactly e f).0 h), λ c. (share_exactly e f).1 (meet e f c))

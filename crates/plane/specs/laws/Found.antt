@@ -2,7 +2,7 @@
 use Rattle.std.specs.Prelude.{ℕ, zero, suc, ◌+◌, ◌*◌, ◌<◌, ◌≡◌, refl, false, not, ◌⊎◌, ℤ, pos, negsuc, neg_ℤ, nat_abs, ◌+ℤ◌, ◌-ℤ◌, ◌*ℤ◌}
 use Rattle.std.proofs.Common.{arith, sym, ap, ap₂, ◌∙◌, true≢false, inl, inr, lt-ltb}
 use Rattle.whole.specs.laws.Solve.{k, ◌⊕◌, ◌⊖◌, ◌⊗◌, ⊝◌, ring, ◌≔◌}
-use Rattle.plane.specs.Plane.{Segment, side, sameSign, share}
+use Rattle.plane.specs.Plane.{Segment, side, same_sign, share}
 use Rattle.plane.specs.laws.Meet.{Meet}
 
 -- x is at or above 0 and y at or below it
@@ -13,8 +13,8 @@ pub record Parted (x y : ℤ) : Type 0 where
   pub down : y ≡ neg_ℤ (pos n)
 
 -- two numbers not both above and not both below 0
-parted : (x y : ℤ) → sameSign x y ≡ false → Parted x y ⊎ Parted y x
-unfolding sameSign
+parted : (x y : ℤ) → same_sign x y ≡ false → Parted x y ⊎ Parted y x
+unfolding same_sign
 parted (pos zero) (pos n) e = inr (record { m = n; n = 0; up = refl; down = refl })
 parted (pos zero) (negsuc n) e = inl (record { m = 0; n = suc n; up = refl; down = refl })
 parted (pos (suc m)) (pos zero) e = inl (record { m = suc m; n = 0; up = refl; down = refl })
@@ -49,9 +49,9 @@ module _ (e f : Segment) where
           ((i ⊖ g) ⊗ (q ⊖ h) ⊖ (j ⊖ h) ⊗ (p ⊖ g)) ⊖ ((i ⊖ g) ⊗ (s ⊖ h) ⊖ (j ⊖ h) ⊗ (r ⊖ g))
           ≔ ((r ⊖ p) ⊗ (j ⊖ q) ⊖ (s ⊖ q) ⊗ (i ⊖ p)) ⊖ ((r ⊖ p) ⊗ (h ⊖ q) ⊖ (s ⊖ q) ⊗ (g ⊖ p))) tt
 
-  cramer-u : d *ℤ e.0.u -ℤ c *ℤ e.1.u ≡ a *ℤ f.1.u -ℤ b *ℤ f.0.u
+  cramer_u : d *ℤ e.0.u -ℤ c *ℤ e.1.u ≡ a *ℤ f.1.u -ℤ b *ℤ f.0.u
   unfolding side
-  cramer-u = go e.0.u e.0.v e.1.u e.1.v f.0.u f.0.v f.1.u f.1.v
+  cramer_u = go e.0.u e.0.v e.1.u e.1.v f.0.u f.0.v f.1.u f.1.v
     where
       go : (p q r s g h i j : ℤ) →
           ((i -ℤ g) *ℤ (s -ℤ h) -ℤ (j -ℤ h) *ℤ (r -ℤ g)) *ℤ p -ℤ ((i -ℤ g) *ℤ (q -ℤ h) -ℤ (j -ℤ h) *ℤ (p -ℤ g)) *ℤ r
@@ -60,9 +60,9 @@ module _ (e f : Segment) where
           ((i ⊖ g) ⊗ (s ⊖ h) ⊖ (j ⊖ h) ⊗ (r ⊖ g)) ⊗ p ⊖ ((i ⊖ g) ⊗ (q ⊖ h) ⊖ (j ⊖ h) ⊗ (p ⊖ g)) ⊗ r
           ≔ ((r ⊖ p) ⊗ (h ⊖ q) ⊖ (s ⊖ q) ⊗ (g ⊖ p)) ⊗ i ⊖ ((r ⊖ p) ⊗ (j ⊖ q) ⊖ (s ⊖ q) ⊗ (i ⊖ p)) ⊗ g) tt
 
-  cramer-v : d *ℤ e.0.v -ℤ c *ℤ e.1.v ≡ a *ℤ f.1.v -ℤ b *ℤ f.0.v
+  cramer_v : d *ℤ e.0.v -ℤ c *ℤ e.1.v ≡ a *ℤ f.1.v -ℤ b *ℤ f.0.v
   unfolding side
-  cramer-v = go e.0.u e.0.v e.1.u e.1.v f.0.u f.0.v f.1.u f.1.v
+  cramer_v = go e.0.u e.0.v e.1.u e.1.v f.0.u f.0.v f.1.u f.1.v
     where
       go : (p q r s g h i j : ℤ) →
           ((i -ℤ g) *ℤ (s -ℤ h) -ℤ (j -ℤ h) *ℤ (r -ℤ g)) *ℤ q -ℤ ((i -ℤ g) *ℤ (q -ℤ h) -ℤ (j -ℤ h) *ℤ (p -ℤ g)) *ℤ s
@@ -81,8 +81,8 @@ weigh i j p q x y z w e = plus (pos q) (pos p) x y ∙ e ∙ minus (pos i) (pos 
     minus : (i j z w : ℤ) → i *ℤ w -ℤ neg_ℤ j *ℤ z ≡ j *ℤ z +ℤ i *ℤ w
     minus = ring 4 (λ i j z w. i ⊗ w ⊖ ⊝ j ⊗ z ≔ j ⊗ z ⊕ i ⊗ w) tt
 
-weigh-back : (i j p q : ℕ) (x y z w : ℤ) → neg_ℤ (pos q) *ℤ x -ℤ pos p *ℤ y ≡ neg_ℤ (pos i) *ℤ w -ℤ pos j *ℤ z → pos q *ℤ x +ℤ pos p *ℤ y ≡ pos j *ℤ z +ℤ pos i *ℤ w
-weigh-back i j p q x y z w e = plus (pos q) (pos p) x y ∙ ap neg_ℤ e ∙ minus (pos i) (pos j) z w
+weigh_back : (i j p q : ℕ) (x y z w : ℤ) → neg_ℤ (pos q) *ℤ x -ℤ pos p *ℤ y ≡ neg_ℤ (pos i) *ℤ w -ℤ pos j *ℤ z → pos q *ℤ x +ℤ pos p *ℤ y ≡ pos j *ℤ z +ℤ pos i *ℤ w
+weigh_back i j p q x y z w e = plus (pos q) (pos p) x y ∙ ap neg_ℤ e ∙ minus (pos i) (pos j) z w
   where
     plus : (q p x y : ℤ) → q *ℤ x +ℤ p *ℤ y ≡ neg_ℤ (neg_ℤ q *ℤ x -ℤ p *ℤ y)
     plus = ring 4 (λ q p x y. q ⊗ x ⊕ p ⊗ y ≔ ⊝ (⊝ q ⊗ x ⊖ p ⊗ y)) tt
@@ -137,8 +137,8 @@ module _ (e f : Segment) where
         t' = x.n;
         some = omega (arith, weight (a e f) (b e f) x);
         whole = w;
-        on-u = weigh x.m x.n y.n y.m e.0.u e.1.u f.0.u f.1.u (rw (x.up, x.down, y.up, y.down) at (cramer-u e f));
-        on-v = weigh x.m x.n y.n y.m e.0.v e.1.v f.0.v f.1.v (rw (x.up, x.down, y.up, y.down) at (cramer-v e f));
+        on_u = weigh x.m x.n y.n y.m e.0.u e.1.u f.0.u f.1.u (rw (x.up, x.down, y.up, y.down) at (cramer_u e f));
+        on-v = weigh x.m x.n y.n y.m e.0.v e.1.v f.0.v f.1.v (rw (x.up, x.down, y.up, y.down) at (cramer_v e f));
       }
 
   -- f goes up through e's line, and e down through f's
@@ -152,8 +152,8 @@ module _ (e f : Segment) where
         t' = x.m;
         some = omega (arith, weight (b e f) (a e f) x);
         whole = w;
-        on-u = weigh-back x.n x.m y.m y.n e.0.u e.1.u f.0.u f.1.u (rw (x.up, x.down, y.up, y.down) at (cramer-u e f));
-        on-v = weigh-back x.n x.m y.m y.n e.0.v e.1.v f.0.v f.1.v (rw (x.up, x.down, y.up, y.down) at (cramer-v e f));
+        on_u = weigh_back x.n x.m y.m y.n e.0.u e.1.u f.0.u f.1.u (rw (x.up, x.down, y.up, y.down) at (cramer_u e f));
+        on-v = weigh_back x.n x.m y.m y.n e.0.v e.1.v f.0.v f.1.v (rw (x.up, x.down, y.up, y.down) at (cramer_v e f));
       }
 
   -- both the same way is impossible
@@ -168,8 +168,8 @@ module _ (e f : Segment) where
       omega (arith, weight (b e f) (a e f) x)
 
   -- segments not on one line, neither on one side of the other's line, have a point in common
-  pub found-meet : sameSign (a e f) (b e f) ≡ false → sameSign (c e f) (d e f) ≡ false → 0 < nat_abs (a e f) + nat_abs (b e f) → Meet e f
-  found-meet p q h = go (parted (a e f) (b e f) p) (parted (c e f) (d e f) q)
+  pub found_meet : same_sign (a e f) (b e f) ≡ false → same_sign (c e f) (d e f) ≡ false → 0 < nat_abs (a e f) + nat_abs (b e f) → Meet e f
+  found_meet p q h = go (parted (a e f) (b e f) p) (parted (c e f) (d e f) q)
     where
       go : Parted (a e f) (b e f) ⊎ Parted (b e f) (a e f) → Parted (c e f) (d e f) ⊎ Parted (d e f) (c e f) → Meet e f
       go (inl x) (inl y) = absurd (clash-down x y h)

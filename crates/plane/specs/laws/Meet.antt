@@ -8,8 +8,8 @@ use Rattle.std.proofs.Math.IntN.{pos}
 use Rattle.std.specs.Int.Signed.{lt_z, lt_z_yes}
 use Rattle.whole.specs.laws.Bools.{and_left, and_right}
 use Rattle.whole.specs.laws.Solve.{v, k, ◌⊕◌, ◌⊖◌, ◌⊗◌, ⊝◌, ring, ◌≔◌}
-use Rattle.whole.specs.laws.Order.{P, N, lt_of, eq-by}
-use Rattle.plane.specs.Plane.{Segment, side, sameSign, under, overlap, share}
+use Rattle.whole.specs.laws.Order.{P, N, lt_of, eq_by}
+use Rattle.plane.specs.Plane.{Segment, side, same_sign, under, overlap, share}
 
 -- a point in common: it divides e in the ratio s to s', and f in the ratio t to t'
 pub record Meet (e f : Segment) : Type 0 where
@@ -19,38 +19,38 @@ pub record Meet (e f : Segment) : Type 0 where
   pub t' : ℕ
   pub some : 0 < s' + s
   pub whole : s' + s ≡ t' + t
-  pub on-u : pos s' *ℤ e.0.u +ℤ pos s *ℤ e.1.u ≡ pos t' *ℤ f.0.u +ℤ pos t *ℤ f.1.u
+  pub on_u : pos s' *ℤ e.0.u +ℤ pos s *ℤ e.1.u ≡ pos t' *ℤ f.0.u +ℤ pos t *ℤ f.1.u
   pub on-v : pos s' *ℤ e.0.v +ℤ pos s *ℤ e.1.v ≡ pos t' *ℤ f.0.v +ℤ pos t *ℤ f.1.v
 
 -- ---- sums of naturals times what is above zero
 
-pos-is : (a b : ℕ) → pos a ≡ pos b → a ≡ b
-pos-is a b e = ap nat_abs e
+pos_is : (a b : ℕ) → pos a ≡ pos b → a ≡ b
+pos_is a b e = ap nat_abs e
 
 -- weights that bring two numbers above zero to zero are zero
-no-weight : (a b m n : ℕ) → pos a *ℤ pos (suc m) +ℤ pos b *ℤ pos (suc n) ≡ pos 0 → a + b ≡ 0
-no-weight a b m n e =
-    let h : a * suc m + b * suc n ≡ 0 = pos-is (a * suc m + b * suc n) 0 e in
+no_weight : (a b m n : ℕ) → pos a *ℤ pos (suc m) +ℤ pos b *ℤ pos (suc n) ≡ pos 0 → a + b ≡ 0
+no_weight a b m n e =
+    let h : a * suc m + b * suc n ≡ 0 = pos_is (a * suc m + b * suc n) 0 e in
     let p : a * suc m ≡ a * m + a = mul-suc a m in
     let q : b * suc n ≡ b * n + b = mul-suc b n in
     omega arith
 
-no-weight-below : (a b m n : ℕ) → pos a *ℤ negsuc m +ℤ pos b *ℤ negsuc n ≡ pos 0 → a + b ≡ 0
-no-weight-below a b m n e = no-weight a b m n (flip (pos a) (pos b) (pos (suc m)) (pos (suc n)) ∙ ap neg_ℤ e)
+no_weight_below : (a b m n : ℕ) → pos a *ℤ negsuc m +ℤ pos b *ℤ negsuc n ≡ pos 0 → a + b ≡ 0
+no_weight_below a b m n e = no_weight a b m n (flip (pos a) (pos b) (pos (suc m)) (pos (suc n)) ∙ ap neg_ℤ e)
   where
     flip : (a b c d : ℤ) → a *ℤ c +ℤ b *ℤ d ≡ neg_ℤ (a *ℤ neg_ℤ c +ℤ b *ℤ neg_ℤ d)
     flip = ring 4 (λ a b c d. a ⊗ c ⊕ b ⊗ d ≔ ⊝ (a ⊗ ⊝ c ⊕ b ⊗ ⊝ d)) tt
 
 -- a weighted mean of zero: the two are not both above, nor both below
-mixed : (a b : ℕ) → 0 < a + b → (x y : ℤ) → pos a *ℤ x +ℤ pos b *ℤ y ≡ pos 0 → sameSign x y ≡ false
-unfolding sameSign
+mixed : (a b : ℕ) → 0 < a + b → (x y : ℤ) → pos a *ℤ x +ℤ pos b *ℤ y ≡ pos 0 → same_sign x y ≡ false
+unfolding same_sign
 mixed a b h (pos zero) y e = refl
 mixed a b h (pos (suc m)) (pos zero) e = rw (lt-ltb 0 (suc m) (omega arith), le-ltb (suc m) 0 (omega arith))
-mixed a b h (pos (suc m)) (pos (suc n)) e = absurd (omega (arith, no-weight a b m n e))
+mixed a b h (pos (suc m)) (pos (suc n)) e = absurd (omega (arith, no_weight a b m n e))
 mixed a b h (pos (suc m)) (negsuc n) e = rw (lt-ltb 0 (suc m) (omega arith), le-ltb (suc m) 0 (omega arith))
 mixed a b h (negsuc m) (pos zero) e = refl
 mixed a b h (negsuc m) (pos (suc n)) e = rw (le-ltb (suc n) 0 (omega arith))
-mixed a b h (negsuc m) (negsuc n) e = absurd (omega (arith, no-weight-below a b m n e))
+mixed a b h (negsuc m) (negsuc n) e = absurd (omega (arith, no_weight_below a b m n e))
 
 -- ---- sides
 
@@ -59,7 +59,7 @@ on_line : (e f : Segment) (m : Meet e f) → pos m.t' *ℤ side e.0 e.1 f.0 +ℤ
 unfolding side
 on_line e f m =
     spread e.0.u e.0.v e.1.u e.1.v f.0.u f.0.v f.1.u f.1.v (pos m.t') (pos m.t)
-    ∙ (λ i. lever e.0.u e.0.v e.1.u e.1.v (sym m.on-u i) (sym m.on-v i) (weights i))
+    ∙ (λ i. lever e.0.u e.0.v e.1.u e.1.v (sym m.on_u i) (sym m.on-v i) (weights i))
     ∙ gone e.0.u e.0.v e.1.u e.1.v (pos m.s') (pos m.s)
   where
     weights : pos m.t' +ℤ pos m.t ≡ pos m.s' +ℤ pos m.s
@@ -88,12 +88,12 @@ turned e f m =
       t' = m.s';
       some = subst (λ (n : ℕ). 0 < n) m.whole m.some;
       whole = sym m.whole;
-      on-u = sym m.on-u;
+      on_u = sym m.on_u;
       on-v = sym m.on-v;
     }
 
-sides-mixed : (e f : Segment) → Meet e f → sameSign (side e.0 e.1 f.0) (side e.0 e.1 f.1) ≡ false
-sides-mixed e f m = mixed m.t' m.t (subst (λ (n : ℕ). 0 < n) m.whole m.some) _ _ (on_line e f m)
+sides_mixed : (e f : Segment) → Meet e f → same_sign (side e.0 e.1 f.0) (side e.0 e.1 f.1) ≡ false
+sides_mixed e f m = mixed m.t' m.t (subst (λ (n : ℕ). 0 < n) m.whole m.some) _ _ (on_line e f m)
 
 -- ---- stretches
 
@@ -101,17 +101,17 @@ sides-mixed e f m = mixed m.t' m.t (subst (λ (n : ℕ). 0 < n) m.whole m.some) 
 pub differs : (a c : ℤ) → lt_z a c ≡ true → (n : ℕ) × (c -ℤ a ≡ pos (suc n))
 differs a c e =
     let h : P a + N c < P c + N a = lt_of (a ∷ c ∷ []) (v 0) (v 1) (lt_z_yes (subst T (sym e) tt)) in
-    (P c + N a - suc (P a + N c), eq-by (a ∷ c ∷ []) (v 1 ⊖ v 0) (k (pos (suc (P c + N a - suc (P a + N c))))) (omega arith))
+    (P c + N a - suc (P a + N c), eq_by (a ∷ c ∷ []) (v 1 ⊖ v 0) (k (pos (suc (P c + N a - suc (P a + N c))))) (omega arith))
 
-no-product : (a b : ℕ) → a * b ≡ 0 → 0 < a → 0 < b → ⊥
-no-product a zero e h g = omega arith
-no-product a (suc b) e h g = omega (arith, mul-suc a b)
+no_product : (a b : ℕ) → a * b ≡ 0 → 0 < a → 0 < b → ⊥
+no_product a zero e h g = omega arith
+no_product a (suc b) e h g = omega (arith, mul-suc a b)
 
-no-products : (w' w q' q : ℕ) → 0 < w' + w → 0 < q' + q → w' * q' ≡ 0 → w' * q ≡ 0 → w * q' ≡ 0 → w * q ≡ 0 → ⊥
-no-products zero w zero q h g a b c d = no-product w q d (omega arith) (omega arith)
-no-products zero w (suc q') q h g a b c d = no-product w (suc q') c (omega arith) (omega arith)
-no-products (suc w') w zero q h g a b c d = no-product (suc w') q b (omega arith) (omega arith)
-no-products (suc w') w (suc q') q h g a b c d = no-product (suc w') (suc q') a (omega arith) (omega arith)
+no_products : (w' w q' q : ℕ) → 0 < w' + w → 0 < q' + q → w' * q' ≡ 0 → w' * q ≡ 0 → w * q' ≡ 0 → w * q ≡ 0 → ⊥
+no_products zero w zero q h g a b c d = no_product w q d (omega arith) (omega arith)
+no_products zero w (suc q') q h g a b c d = no_product w (suc q') c (omega arith) (omega arith)
+no_products (suc w') w zero q h g a b c d = no_product (suc w') q b (omega arith) (omega arith)
+no_products (suc w') w (suc q') q h g a b c d = no_product (suc w') (suc q') a (omega arith) (omega arith)
 
 zeros : (A B C D m₁ m₂ m₃ m₄ : ℕ) → A * suc m₁ + B * suc m₂ + C * suc m₃ + D * suc m₄ ≡ 0 → (A ≡ 0) × (B ≡ 0) × (C ≡ 0) × (D ≡ 0)
 zeros A B C D m₁ m₂ m₃ m₄ s =
@@ -149,9 +149,9 @@ module _ (a b c d : ℤ) (w' w q' q : ℕ) (h : 0 < w' + w) (same : w' + w ≡ q
           let m₃ = differs b c (and_right (lt_z a c && lt_z a d) (lt_z b c) z₁) in
           let m₄ = differs b d (and_right (lt_z a c && lt_z a d && lt_z b c) (lt_z b d) z) in
           let s : w' * q' * suc m₁.0 + w' * q * suc m₂.0 + w * q' * suc m₃.0 + w * q * suc m₄.0 ≡ 0 =
-          pos-is _ 0 ((λ i. pos w' *ℤ pos q' *ℤ sym m₁.1 i +ℤ pos w' *ℤ pos q *ℤ sym m₂.1 i +ℤ pos w *ℤ pos q' *ℤ sym m₃.1 i +ℤ pos w *ℤ pos q *ℤ sym m₄.1 i) ∙ balanced) in
+          pos_is _ 0 ((λ i. pos w' *ℤ pos q' *ℤ sym m₁.1 i +ℤ pos w' *ℤ pos q *ℤ sym m₂.1 i +ℤ pos w *ℤ pos q' *ℤ sym m₃.1 i +ℤ pos w *ℤ pos q *ℤ sym m₄.1 i) ∙ balanced) in
           let n = zeros (w' * q') (w' * q) (w * q') (w * q) m₁.0 m₂.0 m₃.0 m₄.0 s in
-          absurd (no-products w' w q' q h (subst (λ (n : ℕ). 0 < n) same h) n.0 n.1 n.2 n.3)
+          absurd (no_products w' w q' q h (subst (λ (n : ℕ). 0 < n) same h) n.0 n.1 n.2 n.3)
 
 -- the stretches of two segments that meet overlap on either axis
 stretches : (a b c d : ℤ) (w' w q' q : ℕ) → 0 < w' + w → w' + w ≡ q' + q → pos w' *ℤ a +ℤ pos w *ℤ b ≡ pos q' *ℤ c +ℤ pos q *ℤ d → overlap a b c d ≡ true
@@ -165,6 +165,6 @@ stretches a b c d w' w q' q h same e =
 pub meet-share : (e f : Segment) → Meet e f → share e f ≡ true
 unfolding share
 meet-share e f m =
-    let p : overlap e.0.u e.1.u f.0.u f.1.u ≡ true = stretches _ _ _ _ m.s' m.s m.t' m.t m.some m.whole m.on-u in
+    let p : overlap e.0.u e.1.u f.0.u f.1.u ≡ true = stretches _ _ _ _ m.s' m.s m.t' m.t m.some m.whole m.on_u in
     let q : overlap e.0.v e.1.v f.0.v f.1.v ≡ true = stretches _ _ _ _ m.s' m.s m.t' m.t m.some m.whole m.on-v in
-    rw (p, q, sides-mixed e f m, sides-mixed f e (turned e f m))
+    rw (p, q, sides_mixed e f m, sides_mixed f e (turned e f m))

@@ -8,13 +8,13 @@ use lib.ListN.{length}
 use borrow.Author.Rules.{rules}
 use Rattle.space.specs.held.Points.{points_of}
 use Rattle.space.specs.Space.{Point, places}
-use Rattle.ring.specs.Entries.{isUnclosed}
+use Rattle.ring.specs.Entries.{is_unclosed}
 use Rattle.normal.specs.Normal.{normal}
-use Rattle.even.specs.Even.{unevenAt}
-use Rattle.polygon.specs.laws.Checks.{ring-closed}
-use Rattle.polygon.specs.laws.Rows.{kept-sound}
-use Rattle.polygon.specs.laws.Triangle.{triangle-even}
-use Rattle.polygon.proofs.Order.{found_early, found-uneven, found-sound, even_is}
+use Rattle.even.specs.Even.{uneven_at}
+use Rattle.polygon.specs.laws.Checks.{ring_closed_lem}
+use Rattle.polygon.specs.laws.Rows.{kept_sound}
+use Rattle.polygon.specs.laws.Triangle.{triangle_even}
+use Rattle.polygon.proofs.Order.{found_early, found_uneven, found-sound, even_is}
 use Rattle.polygon.proofs.first_failing.Statement.{statement}
 use Rattle.polygon.proofs.first_failing.Tie as tie
 
@@ -26,13 +26,13 @@ abbrev spots : tie.Start → List Point
 spots c = places (table c) c.args.ring.now
 
 -- ---- what each check told
-closed : (c : tie.Else1) → let ring = c.before.before.before.args.ring.now in (4 ≤ length ring) × (isUnclosed ring ≡ false)
+closed : (c : tie.Else1) → let ring = c.before.before.before.args.ring.now in (4 ≤ length ring) × (is_unclosed ring ≡ false)
 closed c =
     let s = c.before.before.before in
-    ring-closed (table s) s.args.ring.now (kept-sound _ (sym c.before.first-of-five.ensures ∙ c.if1.false))
+    ring_closed_lem (table s) s.args.ring.now (kept_sound _ (sym c.before.first-of-five.ensures ∙ c.if1.false))
 
-uneven-is : (c : tie.After-first-uneven-closed) → let s = c.before.before.before.before.before in c.first-uneven-closed.result ≡ unevenAt s.args.tolerance (normal (spots s)) (spots s)
-uneven-is c = let s = c.before.before.before.before.before in c.first-uneven-closed.ensures ∙ ap (λ (n : Point). unevenAt s.args.tolerance n (spots s)) s.requires.1.1.1
+uneven_is : (c : tie.After-first-uneven-closed) → let s = c.before.before.before.before.before in c.first-uneven-closed.result ≡ uneven_at s.args.tolerance (normal (spots s)) (spots s)
+uneven_is c = let s = c.before.before.before.before.before in c.first-uneven-closed.ensures ∙ ap (λ (n : Point). uneven_at s.args.tolerance n (spots s)) s.requires.1.1.1
 
 -- ---- the needs
 first-of-five-requires : tie.Need-first-of-five-requires
@@ -46,7 +46,7 @@ returns c =
 returns-2 : tie.Need-returns-2
 returns-2 c =
     let s = c.before.before.before.before in
-    found-sound (table s) s.args.ring.now s.args.tolerance c.before.before.first-of-five.ensures c.before.if1.false (triangle-even (table s) s.args.ring.now c.if2.true (closed c.before).1 s.args.tolerance)
+    found-sound (table s) s.args.ring.now s.args.tolerance c.before.before.first-of-five.ensures c.before.if1.false (triangle_even (table s) s.args.ring.now c.if2.true (closed c.before).1 s.args.tolerance)
 
 first-uneven-closed-requires : tie.Need-first-uneven-closed-requires
 first-uneven-closed-requires c κs =
@@ -60,12 +60,12 @@ kept-at-requires c κs = search rules
 returns-3 : tie.Need-returns-3
 returns-3 c =
     let s = c.before.before.before.before.before.before.before in
-    c.kept_at.ensures ∙ found-uneven (table s) s.args.ring.now s.args.tolerance c.before.before.before.before.before.first-of-five.ensures c.before.before.before.before.if1.false (uneven-is c.before.before) c.before.if3.true
+    c.kept_at.ensures ∙ found_uneven (table s) s.args.ring.now s.args.tolerance c.before.before.before.before.before.first-of-five.ensures c.before.before.before.before.if1.false (uneven_is c.before.before) c.before.if3.true
 
 returns-4 : tie.Need-returns-4
 returns-4 c =
     let s = c.before.before.before.before.before.before in
-    found-sound (table s) s.args.ring.now s.args.tolerance c.before.before.before.before.first-of-five.ensures c.before.before.before.if1.false (even_is (table s) s.args.ring.now s.args.tolerance (uneven-is c.before) c.if3.false)
+    found-sound (table s) s.args.ring.now s.args.tolerance c.before.before.before.before.first-of-five.ensures c.before.before.before.if1.false (even_is (table s) s.args.ring.now s.args.tolerance (uneven_is c.before) c.if3.false)
 
 pub first-failing-spec : {M : Type 1} → statement M
 first-failing-spec =

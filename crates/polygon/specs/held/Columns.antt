@@ -9,5 +9,5 @@ pub record Filled (flat : List ℤ) (ring : List ℕ) (k n : ℕ) (room : List �
   pub each : (i : ℕ) → i < length ring → get_or room i (pos 0) ≡ get_or flat (3 * get_or ring i 0 + k) (pos 0)
 
 -- where a ring's entries stand in the plane of coordinates j and k
-abbrev pub seenSpots : List ℤ → List ℕ → ℕ → ℕ → List Spot
-seenSpots flat ring j k = map (λ p. spot (get_or flat (3 * p + j) (pos 0)) (get_or flat (3 * p + k) (pos 0))) ring
+abbrev pub seen_spots : List ℤ → List ℕ → ℕ → ℕ → List Spot
+seen_spots flat ring j k = map (λ p. spot (get_or flat (3 * p + j) (pos 0)) (get_or flat (3 * p + k) (pos 0))) ring

@@ -8,15 +8,15 @@ use Rattle.std.proofs.Math.IntN.{pos, pos-+ℤ-pos}
 use Rattle.std.specs.Int.Signed.{lt_z}
 use Rattle.whole.specs.laws.Solve.{k, ◌⊕◌, ◌⊖◌, ◌⊗◌, ⊝◌, ring, ◌≔◌}
 use Rattle.whole.specs.laws.Linear.{lin, ◌≼◌, ◌≺◌, ◌≈◌, ◌⇒◌, never}
-use Rattle.whole.specs.laws.Tests.{lt_yes, lt_test, ge-test, mul-pos-pos, mul-nonneg, square, lt-le}
+use Rattle.whole.specs.laws.Tests.{lt_yes, lt_test, ge_test, mul_pos-pos, mul_nonneg, square, lt_le}
 use Rattle.whole.specs.laws.Bools.{and_left, and_right}
-use Rattle.whole.specs.Lists.{sameZ}
-use Rattle.plane.specs.Plane.{Spot, side, sameSign, overlap, share, turnOff, ahead, shareMore}
+use Rattle.whole.specs.Lists.{same_z}
+use Rattle.plane.specs.Plane.{Spot, side, same_sign, overlap, share, turn_off_of, ahead, share_more_of}
 use Rattle.plane.specs.laws.Meet.{Meet}
 use Rattle.plane.specs.laws.Share.{share-meet}
-use Rattle.polygon.specs.laws.Triangle.{side-round, no_more, level-first}
+use Rattle.polygon.specs.laws.Triangle.{side-round, no_more, level_first}
 use Rattle.fan.specs.held.Fan.{above, every, fans}
-use Rattle.plane.specs.laws.Neighbours.{cancel-positive}
+use Rattle.plane.specs.laws.Neighbours.{cancel_positive}
 
 every-at : (t : ℕ → Bool) (n i : ℕ) → every t n ≡ true → i < n → t i ≡ true
 unfolding every
@@ -34,23 +34,23 @@ turned_up {z} h = lin 1 (λ z. z ≺ k (pos 0) ⇒ k (pos 0) ≺ ⊝ z) (omega a
 turned_down : {z : ℤ} → pos 0 <ℤ neg_ℤ z → z <ℤ pos 0
 turned_down {z} h = lin 1 (λ z. k (pos 0) ≺ ⊝ z ⇒ z ≺ k (pos 0)) (omega arith) z h
 
-both-above : {x y : ℤ} → pos 0 <ℤ x → pos 0 <ℤ y → sameSign x y ≡ true
-unfolding sameSign
+both-above : {x y : ℤ} → pos 0 <ℤ x → pos 0 <ℤ y → same_sign x y ≡ true
+unfolding same_sign
 both-above h l = rw (lt_test h, lt_test l)
 
-both_below : {x y : ℤ} → x <ℤ pos 0 → y <ℤ pos 0 → sameSign x y ≡ true
-unfolding sameSign
-both_below h l = rw (ge-test (lt-le h), lt_test h, lt_test l)
+both_below : {x y : ℤ} → x <ℤ pos 0 → y <ℤ pos 0 → same_sign x y ≡ true
+unfolding same_sign
+both_below h l = rw (ge_test (lt_le h), lt_test h, lt_test l)
 
-other : {z : ℤ} → (z ≡ pos 0 → ⊥) → sameZ z (pos 0) ≡ false
-unfolding sameZ
+other : {z : ℤ} → (z ≡ pos 0 → ⊥) → same_z z (pos 0) ≡ false
+unfolding same_z
 other {z = pos n} f = ne_eqb n 0 (λ e. f (ap pos e))
 other {z = negsuc n} f = refl
 
-some-above : {z : ℤ} → pos 0 <ℤ z → sameZ z (pos 0) ≡ false
+some-above : {z : ℤ} → pos 0 <ℤ z → same_z z (pos 0) ≡ false
 some-above {z} h = other (λ e. lin 1 (λ z. k (pos 0) ≺ z ⇒ z ≈ k (pos 0) ⇒ never) (omega arith) z h e)
 
-some_below : {z : ℤ} → z <ℤ pos 0 → sameZ z (pos 0) ≡ false
+some_below : {z : ℤ} → z <ℤ pos 0 → same_z z (pos 0) ≡ false
 some_below {z} h = other (λ e. lin 1 (λ z. z ≺ k (pos 0) ⇒ z ≈ k (pos 0) ⇒ never) (omega arith) z h e)
 
 -- ---- a number, turned about where the way is the other
@@ -58,39 +58,39 @@ abbrev signed : Bool → ℤ → ℤ
 signed true z = z
 signed false z = neg_ℤ z
 
-above-is : (way : Bool) (z : ℤ) → above way z ≡ true → pos 0 <ℤ signed way z
-above-is true z e = lt_yes refl refl e
-above-is false z e = turned_up {z = z} (lt_yes refl refl e)
+above_is : (way : Bool) (z : ℤ) → above way z ≡ true → pos 0 <ℤ signed way z
+above_is true z e = lt_yes refl refl e
+above_is false z e = turned_up {z = z} (lt_yes refl refl e)
 
-some_is : (way : Bool) (z : ℤ) → pos 0 <ℤ signed way z → sameZ z (pos 0) ≡ false
+some_is : (way : Bool) (z : ℤ) → pos 0 <ℤ signed way z → same_z z (pos 0) ≡ false
 some_is true z h = some-above h
 some_is false z h = some_below (turned_down {z = z} h)
 
-one-sign : (way : Bool) (x y : ℤ) → pos 0 <ℤ signed way x → pos 0 <ℤ signed way y → sameSign x y ≡ true
-one-sign true x y h l = both-above h l
-one-sign false x y h l = both_below (turned_down {z = x} h) (turned_down {z = y} l)
+one_sign : (way : Bool) (x y : ℤ) → pos 0 <ℤ signed way x → pos 0 <ℤ signed way y → same_sign x y ≡ true
+one_sign true x y h l = both-above h l
+one_sign false x y h l = both_below (turned_down {z = x} h) (turned_down {z = y} l)
 
-same-zero : {z : ℤ} → sameZ z (pos 0) ≡ true → z ≡ pos 0
-unfolding sameZ
+same-zero : {z : ℤ} → same_z z (pos 0) ≡ true → z ≡ pos 0
+unfolding same_z
 same-zero {z = pos n} e = ap pos (eqb-true n 0 e)
 same-zero {z = negsuc n} e = absurd (true≢false (sym e))
 
-not-below : (n : ℕ) → pos 0 ≤ℤ pos n
-not-below n = lin 0 (k (pos 0) ≼ k (pos n)) (omega arith)
+not_below : (n : ℕ) → pos 0 ≤ℤ pos n
+not_below n = lin 0 (k (pos 0) ≼ k (pos n)) (omega arith)
 
 up : (n : ℕ) → pos 0 <ℤ pos (suc n)
 up n = lin 0 (k (pos 0) ≺ k (pos (suc n))) (omega arith)
 
 -- ---- an edge wholly on one side of another's line shares no point with it
-middle-fails : (t u : Bool) → (t && false && u) ≡ false
-middle-fails true u = refl
-middle-fails false u = refl
+middle_fails : (t u : Bool) → (t && false && u) ≡ false
+middle_fails true u = refl
+middle_fails false u = refl
 
-beside : (a b c d : Spot) → sameSign (side a b c) (side a b d) ≡ true → share (a, b) (c, d) ≡ false
+beside : (a b c d : Spot) → same_sign (side a b c) (side a b d) ≡ true → share (a, b) (c, d) ≡ false
 unfolding share
 beside a b c d e =
-    ap (λ (t : Bool). overlap a.u b.u c.u d.u && overlap a.v b.v c.v d.v && not t && not (sameSign (side c d a) (side c d b))) e
-    ∙ middle-fails (overlap a.u b.u c.u d.u && overlap a.v b.v c.v d.v) (not (sameSign (side c d a) (side c d b)))
+    ap (λ (t : Bool). overlap a.u b.u c.u d.u && overlap a.v b.v c.v d.v && not t && not (same_sign (side c d a) (side c d b))) e
+    ∙ middle_fails (overlap a.u b.u c.u d.u && overlap a.v b.v c.v d.v) (not (same_sign (side c d a) (side c d b)))
 
 -- ---- three places between which a fourth lies
 module _ (o r p q t : Spot) where
@@ -116,15 +116,15 @@ module _ (o r p q t : Spot) where
   after : (way : Bool) → pos 0 <ℤ signed way (side o r q) → pos 0 <ℤ signed way (side o r p) → pos 0 <ℤ signed way (side o q t) → pos 0 <ℤ signed way (side o r t) → pos 0 <ℤ signed way (side o p q)
       → pos 0 <ℤ signed way (side o p t)
   after way a b c d e =
-      cancel-positive a (subst (λ (z : ℤ). pos 0 <ℤ z) (sym (between-signed way)) (lin 2 (λ x y. k (pos 0) ≺ x ⇒ k (pos 0) ≺ y ⇒ k (pos 0) ≺ x ⊕ y) (omega arith) _ _ (mul-pos-pos b c) (mul-pos-pos d e)))
+      cancel_positive a (subst (λ (z : ℤ). pos 0 <ℤ z) (sym (between-signed way)) (lin 2 (λ x y. k (pos 0) ≺ x ⇒ k (pos 0) ≺ y ⇒ k (pos 0) ≺ x ⊕ y) (omega arith) _ _ (mul_pos-pos b c) (mul_pos-pos d e)))
 
 -- ---- neighbours: an edge from q does not go straight back over the one that ends there
 module _ (o p q r : Spot) where
   abbrev long : ℤ
   long = (q.u -ℤ p.u) *ℤ (q.u -ℤ p.u) +ℤ (q.v -ℤ p.v) *ℤ (q.v -ℤ p.v)
 
-  back_is : long *ℤ side o q r -ℤ ahead (p, q) (q, r) *ℤ side o p q ≡ turnOff (p, q) (q, r) *ℤ ((q.u -ℤ o.u) *ℤ (q.u -ℤ p.u) +ℤ (q.v -ℤ o.v) *ℤ (q.v -ℤ p.v))
-  unfolding side ahead turnOff
+  back_is : long *ℤ side o q r -ℤ ahead (p, q) (q, r) *ℤ side o p q ≡ turn_off_of (p, q) (q, r) *ℤ ((q.u -ℤ o.u) *ℤ (q.u -ℤ p.u) +ℤ (q.v -ℤ o.v) *ℤ (q.v -ℤ p.v))
+  unfolding side ahead turn_off_of
   back_is = go o.u o.v p.u p.v q.u q.v r.u r.v
     where
       go : (a b c d e f g h : ℤ) →
@@ -134,7 +134,7 @@ module _ (o p q r : Spot) where
           ((e ⊖ c) ⊗ (e ⊖ c) ⊕ (f ⊖ d) ⊗ (f ⊖ d)) ⊗ ((e ⊖ a) ⊗ (h ⊖ b) ⊖ (f ⊖ b) ⊗ (g ⊖ a)) ⊖ ((e ⊖ c) ⊗ (g ⊖ e) ⊕ (f ⊖ d) ⊗ (h ⊖ f)) ⊗ ((c ⊖ a) ⊗ (f ⊖ b) ⊖ (d ⊖ b) ⊗ (e ⊖ a))
           ≔ ((e ⊖ c) ⊗ (h ⊖ f) ⊖ (f ⊖ d) ⊗ (g ⊖ e)) ⊗ ((e ⊖ a) ⊗ (e ⊖ c) ⊕ (f ⊖ b) ⊗ (f ⊖ d))) tt
 
-  back-zero : turnOff (p, q) (q, r) ≡ pos 0 → long *ℤ side o q r +ℤ neg_ℤ (ahead (p, q) (q, r)) *ℤ side o p q ≡ pos 0
+  back-zero : turn_off_of (p, q) (q, r) ≡ pos 0 → long *ℤ side o q r +ℤ neg_ℤ (ahead (p, q) (q, r)) *ℤ side o p q ≡ pos 0
   back-zero e =
       plus long (side o q r) (ahead (p, q) (q, r)) (side o p q)
       ∙ back_is
@@ -147,27 +147,27 @@ module _ (o p q r : Spot) where
       zeroed : (a : ℤ) → pos 0 *ℤ a ≡ pos 0
       zeroed = ring 1 (λ a. k (pos 0) ⊗ a ≔ k (pos 0)) tt
 
-  back-signed : (way : Bool) → turnOff (p, q) (q, r) ≡ pos 0 → long *ℤ signed way (side o q r) +ℤ neg_ℤ (ahead (p, q) (q, r)) *ℤ signed way (side o p q) ≡ pos 0
+  back-signed : (way : Bool) → turn_off_of (p, q) (q, r) ≡ pos 0 → long *ℤ signed way (side o q r) +ℤ neg_ℤ (ahead (p, q) (q, r)) *ℤ signed way (side o p q) ≡ pos 0
   back-signed true e = back-zero e
   back-signed false e = turned long (side o q r) (ahead (p, q) (q, r)) (side o p q) ∙ ap neg_ℤ (back-zero e)
     where
       turned : (a b c d : ℤ) → a *ℤ neg_ℤ b +ℤ neg_ℤ c *ℤ neg_ℤ d ≡ neg_ℤ (a *ℤ b +ℤ neg_ℤ c *ℤ d)
       turned = ring 4 (λ a b c d. a ⊗ ⊝ b ⊕ ⊝ c ⊗ ⊝ d ≔ ⊝ (a ⊗ b ⊕ ⊝ c ⊗ d)) tt
 
-  long-is : pos 0 ≤ℤ long
-  long-is = lin 2 (λ x y. k (pos 0) ≼ x ⇒ k (pos 0) ≼ y ⇒ k (pos 0) ≼ x ⊕ y) (omega arith) _ _ (square (q.u -ℤ p.u)) (square (q.v -ℤ p.v))
+  long_is : pos 0 ≤ℤ long
+  long_is = lin 2 (λ x y. k (pos 0) ≼ x ⇒ k (pos 0) ≼ y ⇒ k (pos 0) ≼ x ⊕ y) (omega arith) _ _ (square (q.u -ℤ p.u)) (square (q.v -ℤ p.v))
 
-  no-back : (way : Bool) → pos 0 <ℤ signed way (side o p q) → pos 0 <ℤ signed way (side o q r) → shareMore (p, q) (q, r) ≡ false
-  unfolding shareMore
-  no-back way h l = go (sameZ (turnOff (p, q) (q, r)) (pos 0)) (lt_z (ahead (p, q) (q, r)) (pos 0)) refl refl
+  no_back : (way : Bool) → pos 0 <ℤ signed way (side o p q) → pos 0 <ℤ signed way (side o q r) → share_more_of (p, q) (q, r) ≡ false
+  unfolding share_more_of
+  no_back way h l = go (same_z (turn_off_of (p, q) (q, r)) (pos 0)) (lt_z (ahead (p, q) (q, r)) (pos 0)) refl refl
     where
-      clash : turnOff (p, q) (q, r) ≡ pos 0 → ahead (p, q) (q, r) <ℤ pos 0 → ⊥
+      clash : turn_off_of (p, q) (q, r) ≡ pos 0 → ahead (p, q) (q, r) <ℤ pos 0 → ⊥
       clash e f =
-          let a : pos 0 ≤ℤ (long *ℤ signed way (side o q r)) = mul-nonneg long-is (lt-le l) in
-          let b : pos 0 <ℤ (neg_ℤ (ahead (p, q) (q, r)) *ℤ signed way (side o p q)) = mul-pos-pos (turned_up f) h in
+          let a : pos 0 ≤ℤ (long *ℤ signed way (side o q r)) = mul_nonneg long_is (lt_le l) in
+          let b : pos 0 <ℤ (neg_ℤ (ahead (p, q) (q, r)) *ℤ signed way (side o p q)) = mul_pos-pos (turned_up f) h in
           lin 2 (λ x y. k (pos 0) ≼ x ⇒ k (pos 0) ≺ y ⇒ x ⊕ y ≈ k (pos 0) ⇒ never) (omega arith) _ _ a b (back-signed way e)
 
-      go : (t u : Bool) → sameZ (turnOff (p, q) (q, r)) (pos 0) ≡ t → lt_z (ahead (p, q) (q, r)) (pos 0) ≡ u → (t && u) ≡ false
+      go : (t u : Bool) → same_z (turn_off_of (p, q) (q, r)) (pos 0) ≡ t → lt_z (ahead (p, q) (q, r)) (pos 0) ≡ u → (t && u) ≡ false
       go true true e f = absurd (clash (same-zero e) (lt_yes refl refl f))
       go true false e f = refl
       go false u e f = refl
@@ -181,7 +181,7 @@ module _ (o p q c d : Spot) (m : Meet (p, q) (c, d)) where
   unfolding side
   met =
       first (pos m.s') (pos m.s) o.u o.v p.u p.v q.u q.v c.u c.v (pos m.t' *ℤ side o c c +ℤ pos m.t *ℤ side o c d)
-      ∙ (λ i. ((c.v -ℤ o.v) *ℤ (m.on-u i -ℤ weights i *ℤ o.u) -ℤ (c.u -ℤ o.u) *ℤ (m.on-v i -ℤ weights i *ℤ o.v)) +ℤ (pos m.t' *ℤ side o c c +ℤ pos m.t *ℤ side o c d))
+      ∙ (λ i. ((c.v -ℤ o.v) *ℤ (m.on_u i -ℤ weights i *ℤ o.u) -ℤ (c.u -ℤ o.u) *ℤ (m.on-v i -ℤ weights i *ℤ o.v)) +ℤ (pos m.t' *ℤ side o c c +ℤ pos m.t *ℤ side o c d))
       ∙ last (pos m.t') (pos m.t) o.u o.v c.u c.v d.u d.v
     where
       first : (x y a b e f g h i j z : ℤ) →
@@ -198,28 +198,28 @@ module _ (o p q c d : Spot) (m : Meet (p, q) (c, d)) where
           ((j ⊖ b) ⊗ ((x ⊗ i ⊕ y ⊗ g) ⊖ (x ⊕ y) ⊗ a) ⊖ (i ⊖ a) ⊗ ((x ⊗ j ⊕ y ⊗ h) ⊖ (x ⊕ y) ⊗ b)) ⊕ (x ⊗ ((i ⊖ a) ⊗ (j ⊖ b) ⊖ (j ⊖ b) ⊗ (i ⊖ a)) ⊕ y ⊗ ((i ⊖ a) ⊗ (h ⊖ b) ⊖ (j ⊖ b) ⊗ (g ⊖ a)))
           ≔ k (pos 0)) tt
 
-  met-signed : (way : Bool) → (pos m.s' *ℤ signed way (side o p c) +ℤ pos m.s *ℤ signed way (side o q c)) +ℤ (pos m.t' *ℤ signed way (side o c c) +ℤ pos m.t *ℤ signed way (side o c d)) ≡ pos 0
-  met-signed true = met
-  met-signed false = turned (pos m.s') (pos m.s) (pos m.t') (pos m.t) (side o p c) (side o q c) (side o c c) (side o c d) ∙ ap neg_ℤ met
+  met_signed : (way : Bool) → (pos m.s' *ℤ signed way (side o p c) +ℤ pos m.s *ℤ signed way (side o q c)) +ℤ (pos m.t' *ℤ signed way (side o c c) +ℤ pos m.t *ℤ signed way (side o c d)) ≡ pos 0
+  met_signed true = met
+  met_signed false = turned (pos m.s') (pos m.s) (pos m.t') (pos m.t) (side o p c) (side o q c) (side o c c) (side o c d) ∙ ap neg_ℤ met
     where
       turned : (a b c d x y z w : ℤ) → (a *ℤ neg_ℤ x +ℤ b *ℤ neg_ℤ y) +ℤ (c *ℤ neg_ℤ z +ℤ d *ℤ neg_ℤ w) ≡ neg_ℤ ((a *ℤ x +ℤ b *ℤ y) +ℤ (c *ℤ z +ℤ d *ℤ w))
       turned = ring 8 (λ a b c d x y z w. (a ⊗ ⊝ x ⊕ b ⊗ ⊝ y) ⊕ (c ⊗ ⊝ z ⊕ d ⊗ ⊝ w) ≔ ⊝ ((a ⊗ x ⊕ b ⊗ y) ⊕ (c ⊗ z ⊕ d ⊗ w))) tt
 
 -- weights, not both 0, of numbers above 0; and of numbers not below
-weigh-some : (a b : ℕ) {x y : ℤ} → 0 < a + b → pos 0 <ℤ x → pos 0 <ℤ y → pos 0 <ℤ (pos a *ℤ x +ℤ pos b *ℤ y)
-weigh-some zero zero h p q = absurd (omega arith)
-weigh-some zero (suc b) {x} {y} h p q = lin 2 (λ x y. k (pos 0) ≼ x ⇒ k (pos 0) ≺ y ⇒ k (pos 0) ≺ x ⊕ y) (omega arith) _ _ (mul-nonneg (not-below 0) (lt-le p)) (mul-pos-pos (up b) q)
-weigh-some (suc a) b {x} {y} h p q = lin 2 (λ x y. k (pos 0) ≺ x ⇒ k (pos 0) ≼ y ⇒ k (pos 0) ≺ x ⊕ y) (omega arith) _ _ (mul-pos-pos (up a) p) (mul-nonneg (not-below b) (lt-le q))
+weigh_some : (a b : ℕ) {x y : ℤ} → 0 < a + b → pos 0 <ℤ x → pos 0 <ℤ y → pos 0 <ℤ (pos a *ℤ x +ℤ pos b *ℤ y)
+weigh_some zero zero h p q = absurd (omega arith)
+weigh_some zero (suc b) {x} {y} h p q = lin 2 (λ x y. k (pos 0) ≼ x ⇒ k (pos 0) ≺ y ⇒ k (pos 0) ≺ x ⊕ y) (omega arith) _ _ (mul_nonneg (not_below 0) (lt_le p)) (mul_pos-pos (up b) q)
+weigh_some (suc a) b {x} {y} h p q = lin 2 (λ x y. k (pos 0) ≺ x ⇒ k (pos 0) ≼ y ⇒ k (pos 0) ≺ x ⊕ y) (omega arith) _ _ (mul_pos-pos (up a) p) (mul_nonneg (not_below b) (lt_le q))
 
-weigh-none : (a b : ℕ) {x y : ℤ} → pos 0 ≤ℤ x → pos 0 ≤ℤ y → pos 0 ≤ℤ (pos a *ℤ x +ℤ pos b *ℤ y)
-weigh-none a b p q = lin 2 (λ x y. k (pos 0) ≼ x ⇒ k (pos 0) ≼ y ⇒ k (pos 0) ≼ x ⊕ y) (omega arith) _ _ (mul-nonneg (not-below a) p) (mul-nonneg (not-below b) q)
+weigh_none : (a b : ℕ) {x y : ℤ} → pos 0 ≤ℤ x → pos 0 ≤ℤ y → pos 0 ≤ℤ (pos a *ℤ x +ℤ pos b *ℤ y)
+weigh_none a b p q = lin 2 (λ x y. k (pos 0) ≼ x ⇒ k (pos 0) ≼ y ⇒ k (pos 0) ≼ x ⊕ y) (omega arith) _ _ (mul_nonneg (not_below a) p) (mul_nonneg (not_below b) q)
 
-no-meet : (way : Bool) (o p q c d : Spot) → pos 0 <ℤ signed way (side o p c) → pos 0 <ℤ signed way (side o q c) → pos 0 ≤ℤ signed way (side o c c) → pos 0 ≤ℤ signed way (side o c d) → share (p, q) (c, d) ≡ false
-no-meet way o p q c d a b e f = go (share (p, q) (c, d)) refl
+no_meet : (way : Bool) (o p q c d : Spot) → pos 0 <ℤ signed way (side o p c) → pos 0 <ℤ signed way (side o q c) → pos 0 ≤ℤ signed way (side o c c) → pos 0 ≤ℤ signed way (side o c d) → share (p, q) (c, d) ≡ false
+no_meet way o p q c d a b e f = go (share (p, q) (c, d)) refl
   where
     clash : Meet (p, q) (c, d) → ⊥
     clash m =
-        lin 2 (λ x y. k (pos 0) ≺ x ⇒ k (pos 0) ≼ y ⇒ x ⊕ y ≈ k (pos 0) ⇒ never) (omega arith) _ _ (weigh-some m.s' m.s m.some a b) (weigh-none m.t' m.t e f) (met-signed o p q c d m way)
+        lin 2 (λ x y. k (pos 0) ≺ x ⇒ k (pos 0) ≼ y ⇒ x ⊕ y ≈ k (pos 0) ⇒ never) (omega arith) _ _ (weigh_some m.s' m.s m.some a b) (weigh_none m.t' m.t e f) (met_signed o p q c d m way)
 
     go : (t : Bool) → share (p, q) (c, d) ≡ t → t ≡ false
     go true h = absurd (clash (share-meet (p, q) (c, d) h))
@@ -227,14 +227,14 @@ no-meet way o p q c d a b e f = go (share (p, q) (c, d)) refl
 
 -- ---- places that fan out, the one numbered m being the first again
 none-signed : (way : Bool) {z : ℤ} → z ≡ pos 0 → pos 0 ≤ℤ signed way z
-none-signed true e = subst (λ (z : ℤ). pos 0 ≤ℤ z) (sym e) (not-below 0)
-none-signed false e = subst (λ (z : ℤ). pos 0 ≤ℤ neg_ℤ z) (sym e) (not-below 0)
+none-signed true e = subst (λ (z : ℤ). pos 0 ≤ℤ z) (sym e) (not_below 0)
+none-signed false e = subst (λ (z : ℤ). pos 0 ≤ℤ neg_ℤ z) (sym e) (not_below 0)
 
-level-last : (o c : Spot) → side o c c ≡ pos 0
-level-last o c = side-round c o c ∙ side-round c c o ∙ level-first c o
+level_last : (o c : Spot) → side o c c ≡ pos 0
+level_last o c = side-round c o c ∙ side-round c c o ∙ level_first c o
 
-level-home : (o c : Spot) → side o c o ≡ pos 0
-level-home o c = side-round o o c ∙ level-first o c
+level_home : (o c : Spot) → side o c o ≡ pos 0
+level_home o c = side-round o o c ∙ level_first o c
 
 module _ (way : Bool) (at : ℕ → Spot) (m : ℕ) (fan : every (fans way at) (m - 2) ≡ true) where
   -- which side of the way to place i the place j is on
@@ -246,7 +246,7 @@ module _ (way : Bool) (at : ℕ → Spot) (m : ℕ) (fan : every (fans way at) (
       let e = every-at (fans way at) (m - 2) x fan h in
       let a = above way (side (at 0) (at (x + 1)) (at (x + 2))) in
       let b = above way (side (at 0) (at 1) (at (x + 2))) in
-      (above-is way (side (at 0) (at (x + 1)) (at (x + 2))) (and_left a b e), above-is way (side (at 0) (at 1) (at (x + 2))) (and_right a b e))
+      (above_is way (side (at 0) (at (x + 1)) (at (x + 2))) (and_left a b e), above_is way (side (at 0) (at 1) (at (x + 2))) (and_right a b e))
 
   next : (i : ℕ) → 1 ≤ i → suc i < m → pos 0 <ℤ turn i (suc i)
   next zero h l = absurd (omega arith)
@@ -272,34 +272,34 @@ module _ (way : Bool) (at : ℕ → Spot) (m : ℕ) (fan : every (fans way at) (
       go (yes p) (no q) f = let e : 1 ≡ i = omega arith in subst (λ (n : ℕ). pos 0 <ℤ turn n (suc j)) e (past_first (suc j) (omega arith) c)
       go (no p) d f = let e : j ≡ i = omega arith in subst (λ (n : ℕ). pos 0 <ℤ turn n (suc j)) e (next j (omega arith) c)
 
-  pub some_at : (i j : ℕ) → 1 ≤ i → i < j → j < m → sameZ (side (at 0) (at i) (at j)) (pos 0) ≡ false
+  pub some_at : (i j : ℕ) → 1 ≤ i → i < j → j < m → same_z (side (at 0) (at i) (at j)) (pos 0) ≡ false
   some_at i j a b c = some_is way (side (at 0) (at i) (at j)) (order j i a b c)
 
   module _ (three : 3 ≤ m) (closed : at m ≡ at 0) where
     home : (i : ℕ) → i ≡ m → at 0 ≡ at i
     home i e = sym closed ∙ ap at (sym e)
 
-    pub next-apart : (i : ℕ) → i + 1 < m → shareMore (at i, at (i + 1)) (at (i + 1), at ((i + 1) + 1)) ≡ false
+    pub next-apart : (i : ℕ) → i + 1 < m → share_more_of (at i, at (i + 1)) (at (i + 1), at ((i + 1) + 1)) ≡ false
     next-apart zero h = no_more (at 0) (at 1) (at 2) (some_at 1 2 (omega arith) (omega arith) (omega arith))
     next-apart (suc x) h = go (dec_lt ((suc x + 1) + 1) m)
       where
-        go : Dec ((suc x + 1) + 1 < m) → shareMore (at (suc x), at (suc x + 1)) (at (suc x + 1), at ((suc x + 1) + 1)) ≡ false
-        go (yes p) = no-back (at 0) (at (suc x)) (at (suc x + 1)) (at ((suc x + 1) + 1)) way (order (suc x + 1) (suc x) (omega arith) (omega arith) h) (order ((suc x + 1) + 1) (suc x + 1) (omega arith) (omega arith) p)
+        go : Dec ((suc x + 1) + 1 < m) → share_more_of (at (suc x), at (suc x + 1)) (at (suc x + 1), at ((suc x + 1) + 1)) ≡ false
+        go (yes p) = no_back (at 0) (at (suc x)) (at (suc x + 1)) (at ((suc x + 1) + 1)) way (order (suc x + 1) (suc x) (omega arith) (omega arith) h) (order ((suc x + 1) + 1) (suc x + 1) (omega arith) (omega arith) p)
         go (no p) =
-            subst (λ (r : Spot). shareMore (at (suc x), at (suc x + 1)) (at (suc x + 1), r) ≡ false) (home ((suc x + 1) + 1) (omega arith))
-            (no_more (at (suc x)) (at (suc x + 1)) (at 0) (ap (λ (z : ℤ). sameZ z (pos 0)) (side-round (at 0) (at (suc x)) (at (suc x + 1))) ∙ some_at (suc x) (suc x + 1) (omega arith) (omega arith) h))
+            subst (λ (r : Spot). share_more_of (at (suc x), at (suc x + 1)) (at (suc x + 1), r) ≡ false) (home ((suc x + 1) + 1) (omega arith))
+            (no_more (at (suc x)) (at (suc x + 1)) (at 0) (ap (λ (z : ℤ). same_z z (pos 0)) (side-round (at 0) (at (suc x)) (at (suc x + 1))) ∙ some_at (suc x) (suc x + 1) (omega arith) (omega arith) h))
 
-    pub last_apart : (j : ℕ) → j + 1 ≡ m → shareMore (at j, at (j + 1)) (at 0, at 1) ≡ false
+    pub last_apart : (j : ℕ) → j + 1 ≡ m → share_more_of (at j, at (j + 1)) (at 0, at 1) ≡ false
     last_apart j e =
-        subst (λ (q : Spot). shareMore (at j, q) (at 0, at 1) ≡ false) (home (j + 1) e)
-        (no_more (at j) (at 0) (at 1) (ap (λ (z : ℤ). sameZ z (pos 0)) (side-round (at 1) (at j) (at 0) ∙ side-round (at 0) (at 1) (at j)) ∙ some_at 1 j (omega arith) (omega arith) (omega arith)))
+        subst (λ (q : Spot). share_more_of (at j, q) (at 0, at 1) ≡ false) (home (j + 1) e)
+        (no_more (at j) (at 0) (at 1) (ap (λ (z : ℤ). same_z z (pos 0)) (side-round (at 1) (at j) (at 0) ∙ side-round (at 0) (at 1) (at j)) ∙ some_at 1 j (omega arith) (omega arith) (omega arith)))
 
     pub other-apart : (i j : ℕ) → i + 1 < j → j < m → (i ≡ 0 → j + 1 < m) → share (at i, at (i + 1)) (at j, at (j + 1)) ≡ false
     other-apart zero j a b c =
-        beside (at 0) (at 1) (at j) (at (j + 1)) (one-sign way (side (at 0) (at 1) (at j)) (side (at 0) (at 1) (at (j + 1))) (order j 1 (omega arith) (omega arith) b) (order (j + 1) 1 (omega arith) (omega arith) (c refl)))
+        beside (at 0) (at 1) (at j) (at (j + 1)) (one_sign way (side (at 0) (at 1) (at j)) (side (at 0) (at 1) (at (j + 1))) (order j 1 (omega arith) (omega arith) b) (order (j + 1) 1 (omega arith) (omega arith) (c refl)))
     other-apart (suc x) j a b c =
-        no-meet way (at 0) (at (suc x)) (at (suc x + 1)) (at j) (at (j + 1)) (order j (suc x) (omega arith) (omega arith) b) (order j (suc x + 1) (omega arith) a b) (none-signed way (level-last (at 0) (at j))) (go (dec_lt (j + 1) m))
+        no_meet way (at 0) (at (suc x)) (at (suc x + 1)) (at j) (at (j + 1)) (order j (suc x) (omega arith) (omega arith) b) (order j (suc x + 1) (omega arith) a b) (none-signed way (level_last (at 0) (at j))) (go (dec_lt (j + 1) m))
       where
         go : Dec (j + 1 < m) → pos 0 ≤ℤ turn j (j + 1)
-        go (yes p) = lt-le (order (j + 1) j (omega arith) (omega arith) p)
-        go (no p) = none-signed way (ap (λ (q : Spot). side (at 0) (at j) q) (sym (home (j + 1) (omega arith))) ∙ level-home (at 0) (at j))
+        go (yes p) = lt_le (order (j + 1) j (omega arith) (omega arith) p)
+        go (no p) = none-signed way (ap (λ (q : Spot). side (at 0) (at j) q) (sym (home (j + 1) (omega arith))) ∙ level_home (at 0) (at j))

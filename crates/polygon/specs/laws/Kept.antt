@@ -6,24 +6,24 @@ use Rattle.whole.specs.Lists.{lists}
 use Rattle.whole.specs.All.{All, none, more}
 use Rattle.whole.specs.laws.Alls.{any_none}
 use Rattle.space.specs.Space.{Point, origin, places}
-use Rattle.polygon.specs.Ring.{ringRows, finding}
+use Rattle.polygon.specs.Ring.{ring_rows, finding}
 use Rattle.volume.specs.Part.{part}
 
-pub places-kept : (points : List Point) (n : ℕ) (p : Point) (ring : List ℕ) → All (λ (e : ℕ). eqb n e ≡ false) ring → places (set points n p) ring ≡ places points ring
+pub places_kept : (points : List Point) (n : ℕ) (p : Point) (ring : List ℕ) → All (λ (e : ℕ). eqb n e ≡ false) ring → places (set points n p) ring ≡ places points ring
 unfolding places
-places-kept points n p [] none = refl
-places-kept points n p (e ∷ ring) (more q a) =
-    ap₂ (λ (x : Point) (l : List Point). x ∷ l) (get_or-set_other points n e p origin (λ z. eqb-false n e q (sym z))) (places-kept points n p ring a)
+places_kept points n p [] none = refl
+places_kept points n p (e ∷ ring) (more q a) =
+    ap₂ (λ (x : Point) (l : List Point). x ∷ l) (get_or-set_other points n e p origin (λ z. eqb-false n e q (sym z))) (places_kept points n p ring a)
 
 module _ (points : List Point) (n : ℕ) (p : Point) (ring : List ℕ) (unlisted : lists n ring ≡ false) where
   places_same : places (set points n p) ring ≡ places points ring
   unfolding lists
-  places_same = places-kept points n p ring (any_none (eqb n) ring unlisted)
+  places_same = places_kept points n p ring (any_none (eqb n) ring unlisted)
 
-  pub finding-kept : (tolerance : ℕ) → finding tolerance (set points n p) ring ≡ finding tolerance points ring
-  unfolding ringRows finding
-  finding-kept tolerance = rw places_same
+  pub finding_kept : (tolerance : ℕ) → finding tolerance (set points n p) ring ≡ finding tolerance points ring
+  unfolding ring_rows finding
+  finding_kept tolerance = rw places_same
 
-  pub part-kept : part (set points n p) ring ≡ part points ring
+  pub part_kept : part (set points n p) ring ≡ part points ring
   unfolding part
-  part-kept = rw places_same
+  part_kept = rw places_same

@@ -8,17 +8,17 @@ use Rattle.whole.specs.Lists.{given, first}
 use Rattle.whole.specs.All as all
 use Rattle.whole.specs.All.{All}
 use Rattle.space.specs.Space.{Point, places}
-use Rattle.plane.specs.Plane.{largestAxis}
+use Rattle.plane.specs.Plane.{largest_axis_of}
 use Rattle.normal.specs.Normal.{normal}
-use Rattle.ring.specs.Entries.{repeatedAt}
-use Rattle.crossing.specs.Crossed.{crossedAt}
-use Rattle.even.specs.Even.{isUneven, unevenAt}
+use Rattle.ring.specs.Entries.{repeated_at}
+use Rattle.crossing.specs.Crossed.{crossed_at}
+use Rattle.even.specs.Even.{is_uneven, uneven_at}
 use Rattle.polygon.specs.declared.Finding.{Finding}
 use Rattle.polygon.specs.declared.Finding.TheVariants.{Sound, Short, Unclosed, Repeated, NoNormal, Crossed, Uneven}
-use Rattle.polygon.specs.Ring.{edgesIn, ringRows, ringFinding, finding, findingNumber, findingPosition}
-use Rattle.polygon.specs.held.Findings.{keptFinding}
-use Rattle.polygon.specs.held.Position.{hasPosition}
-use Rattle.polygon.specs.laws.Position.{number_same, position-few}
+use Rattle.polygon.specs.Ring.{edges_in, ring_rows, ring_finding, finding, finding_number_of, finding_position_of}
+use Rattle.polygon.specs.held.Findings.{kept_finding}
+use Rattle.polygon.specs.held.Position.{has_position_of}
+use Rattle.polygon.specs.laws.Position.{number_same, position_few}
 
 -- ---- any rows
 module _ {A : Type 0} where
@@ -48,59 +48,59 @@ module _ {A : Type 0} where
     first_taken (some b ∷ l) f = refl
 
 -- ---- findings
-pub fault : (t : Bool) (f : Finding) → (findingNumber f ≡ 0 → ⊥) → given t f ≡ some Sound → ⊥
-unfolding given findingNumber
-fault true f h e = h (ap findingNumber (some-injective f Sound e))
+pub fault : (t : Bool) (f : Finding) → (finding_number_of f ≡ 0 → ⊥) → given t f ≡ some Sound → ⊥
+unfolding given finding_number_of
+fault true f h e = h (ap finding_number_of (some-injective f Sound e))
 fault false f h e = none-ne-some Sound e
 
-pub above_zero : (f : Finding) {n : ℕ} → findingNumber f ≡ suc n → findingNumber f ≡ 0 → ⊥
+pub above_zero : (f : Finding) {n : ℕ} → finding_number_of f ≡ suc n → finding_number_of f ≡ 0 → ⊥
 above_zero f e h = omega arith
 
 -- no row of 01 to 05 gives `Sound`
-pub ring-others : (points : List Point) (ring : List ℕ) → Others Sound (ringRows points ring)
-unfolding ringRows findingNumber
-ring-others points ring =
+pub ring_others : (points : List Point) (ring : List ℕ) → Others Sound (ring_rows points ring)
+unfolding ring_rows finding_number_of
+ring_others points ring =
     let ps = places points ring in
-    let at = crossedAt (edgesIn (largestAxis (normal ps)) ps) in
-    all.more (fault _ Short (above_zero Short refl)) (all.more (fault _ Unclosed (above_zero Unclosed refl)) (all.more (fault _ (Repeated (repeatedAt ring)) (above_zero (Repeated (repeatedAt ring)) refl)) (all.more (fault _ NoNormal (above_zero NoNormal refl)) (all.more (fault _ (Crossed at) (above_zero (Crossed at) refl)) all.none))))
+    let at = crossed_at (edges_in (largest_axis_of (normal ps)) ps) in
+    all.more (fault _ Short (above_zero Short refl)) (all.more (fault _ Unclosed (above_zero Unclosed refl)) (all.more (fault _ (Repeated (repeated_at ring)) (above_zero (Repeated (repeated_at ring)) refl)) (all.more (fault _ NoNormal (above_zero NoNormal refl)) (all.more (fault _ (Crossed at) (above_zero (Crossed at) refl)) all.none))))
 
 -- what is kept is 0 exactly for `Sound`
-pub kept-sound : (f : Finding) → keptFinding f ≡ 0 → f ≡ Sound
-unfolding keptFinding findingNumber hasPosition
-kept-sound f e = sym (number_same Sound f refl (lowest (findingNumber f) (findingPosition f) e))
+pub kept_sound : (f : Finding) → kept_finding f ≡ 0 → f ≡ Sound
+unfolding kept_finding finding_number_of has_position_of
+kept_sound f e = sym (number_same Sound f refl (lowest (finding_number_of f) (finding_position_of f) e))
   where
     lowest : (m i : ℕ) → 16 * i + m ≡ 0 → 0 ≡ m
     lowest m i h = omega arith
 
-pub kept-fault : (f : Finding) → (keptFinding f ≡ 0 → ⊥) → f ≡ Sound → ⊥
-unfolding keptFinding findingNumber findingPosition
-kept-fault f h e = h (ap keptFinding e)
+pub kept_fault : (f : Finding) → (kept_finding f ≡ 0 → ⊥) → f ≡ Sound → ⊥
+unfolding kept_finding finding_number_of finding_position_of
+kept_fault f h e = h (ap kept_finding e)
 
 -- a finding is `Sound` or not
-pub sound-or : (f : Finding) → (f ≡ Sound) ⊎ (f ≡ Sound → ⊥)
-sound-or f = go (keptFinding f) refl
+pub sound_or : (f : Finding) → (f ≡ Sound) ⊎ (f ≡ Sound → ⊥)
+sound_or f = go (kept_finding f) refl
   where
-    go : (k : ℕ) → keptFinding f ≡ k → (f ≡ Sound) ⊎ (f ≡ Sound → ⊥)
-    go zero e = inl (kept-sound f e)
-    go (suc k) e = inr (kept-fault f (λ z. omega arith))
+    go : (k : ℕ) → kept_finding f ≡ k → (f ≡ Sound) ⊎ (f ≡ Sound → ⊥)
+    go zero e = inl (kept_sound f e)
+    go (suc k) e = inr (kept_fault f (λ z. omega arith))
 
 -- ---- then 06
 module _ (tolerance : ℕ) (points : List Point) (ring : List ℕ) where
   -- what 01 to 05 tell is the finding
-  pub finding-taken : (ringFinding points ring ≡ Sound → ⊥) → finding tolerance points ring ≡ ringFinding points ring
-  unfolding finding ringFinding
-  finding-taken h = first-after Sound (ringRows points ring) _ ∙ first_taken Sound _ (ringRows points ring) h
+  pub finding_taken : (ring_finding points ring ≡ Sound → ⊥) → finding tolerance points ring ≡ ring_finding points ring
+  unfolding finding ring_finding
+  finding_taken h = first-after Sound (ring_rows points ring) _ ∙ first_taken Sound _ (ring_rows points ring) h
 
   -- where they tell nothing, 06 does
-  pub finding-left : ringFinding points ring ≡ Sound → let ps = places points ring in let n = normal ps in finding tolerance points ring ≡ first Sound (given (isUneven tolerance n ps) (Uneven (unevenAt tolerance n ps)) ∷ [])
-  unfolding finding ringFinding
-  finding-left e = first-after Sound (ringRows points ring) _ ∙ first-left Sound _ (ringRows points ring) (ring-others points ring) e
+  pub finding-left : ring_finding points ring ≡ Sound → let ps = places points ring in let n = normal ps in finding tolerance points ring ≡ first Sound (given (is_uneven tolerance n ps) (Uneven (uneven_at tolerance n ps)) ∷ [])
+  unfolding finding ring_finding
+  finding-left e = first-after Sound (ring_rows points ring) _ ∙ first-left Sound _ (ring_rows points ring) (ring_others points ring) e
 
 -- a position that they tell is one of the ring
-pub ring-position-few : (points : List Point) (ring : List ℕ) → findingPosition (ringFinding points ring) ≤ length ring
-unfolding findingPosition
-ring-position-few points ring = go (sound-or (ringFinding points ring))
+pub ring_position_few : (points : List Point) (ring : List ℕ) → finding_position_of (ring_finding points ring) ≤ length ring
+unfolding finding_position_of
+ring_position_few points ring = go (sound_or (ring_finding points ring))
   where
-    go : (ringFinding points ring ≡ Sound) ⊎ (ringFinding points ring ≡ Sound → ⊥) → findingPosition (ringFinding points ring) ≤ length ring
-    go (inl e) = subst (λ (f : Finding). findingPosition f ≤ length ring) (sym e) (omega arith)
-    go (inr h) = subst (λ (f : Finding). findingPosition f ≤ length ring) (finding-taken 0 points ring h) (position-few 0 points ring)
+    go : (ring_finding points ring ≡ Sound) ⊎ (ring_finding points ring ≡ Sound → ⊥) → finding_position_of (ring_finding points ring) ≤ length ring
+    go (inl e) = subst (λ (f : Finding). finding_position_of f ≤ length ring) (sym e) (omega arith)
+    go (inr h) = subst (λ (f : Finding). finding_position_of f ≤ length ring) (finding_taken 0 points ring h) (position_few 0 points ring)

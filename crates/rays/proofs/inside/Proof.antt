@@ -7,17 +7,17 @@ use mir.Val.{to_z}
 use borrow.Author.Rules.{rules}
 use Rattle.plane.specs.Plane.{Spot}
 use Rattle.plane.specs.held.Edges.{spot}
-use Rattle.plane.specs.laws.Numbers.{spot_back, close-back}
+use Rattle.plane.specs.laws.Numbers.{spot_back, close_back}
 use Rattle.whole.specs.Lists.{steps}
 use Rattle.rays.specs.Inside.{inside}
-use Rattle.fan.specs.held.Fan.{spotIn}
-use Rattle.rays.specs.held.Seen.{spotsIn}
-use Rattle.rays.specs.laws.Counted.{Counted, counted_none, counted-more, counted-all, no_edges}
+use Rattle.fan.specs.held.Fan.{spot_in}
+use Rattle.rays.specs.held.Seen.{spots_in}
+use Rattle.rays.specs.laws.Counted.{Counted, counted_none, counted_more, counted-all, no_edges}
 use Rattle.rays.proofs.inside.Statement.{statement}
 use Rattle.rays.proofs.inside.Tie as tie
 
 abbrev invariant-loop : tie.invariant-loop
-invariant-loop points ring j k qu qv odd₀ n m i₀ odd i = Counted (spot (to_z w64 qu) (to_z w64 qv)) (spotIn points j k) ring odd i
+invariant-loop points ring j k qu qv odd₀ n m i₀ odd i = Counted (spot (to_z w64 qu) (to_z w64 qv)) (spot_in points j k) ring odd i
 
 abbrev decreases-loop : tie.decreases-loop
 decreases-loop points ring j k qu qv odd₀ n m i₀ odd i = m - i
@@ -25,7 +25,7 @@ decreases-loop points ring j k qu qv odd₀ n m i₀ odd i = m - i
 returns : tie.Need-returns invariant-loop decreases-loop
 returns c =
     let a = c.before.before.args in
-    no_edges (spot a.qu a.qv) (spotIn a.points.now a.j a.k) a.ring.now (omega (arith, c.if1.true))
+    no_edges (spot a.qu a.qv) (spot_in a.points.now a.j a.k) a.ring.now (omega (arith, c.if1.true))
 
 sub-m : tie.Need-overflow-sub-m invariant-loop decreases-loop
 sub-m c = search rules
@@ -33,7 +33,7 @@ sub-m c = search rules
 loop-holds : tie.Need-loop-init invariant-loop decreases-loop
 loop-holds c =
     let a = c.before.before.args in
-    counted_none _ (spotIn a.points.now a.j a.k) a.ring.now
+    counted_none _ (spot_in a.points.now a.j a.k) a.ring.now
 
 add-next : tie.Need-overflow-add-next invariant-loop decreases-loop
 add-next c = search rules
@@ -55,7 +55,7 @@ edge-crosses-requires c κs =
     let b = c.before.before.before.before.before.before in
     let l = c.before.before.before.loop in
     let h = b.requires.1.0 in
-    (b.requires.0, ((h.each l.i (omega arith), h.each (l.i + 1) (omega arith), b.requires.1.1.0), close-back (spot b.args.qu b.args.qv) b.requires.1.1.1))
+    (b.requires.0, ((h.each l.i (omega arith), h.each (l.i + 1) (omega arith), b.requires.1.1.0), close_back (spot b.args.qu b.args.qv) b.requires.1.1.1))
 
 loop-less : tie.Need-loop-smaller invariant-loop decreases-loop
 loop-less c = search rules
@@ -64,15 +64,15 @@ loop-again : tie.Need-loop-preserved invariant-loop decreases-loop
 loop-again c =
     let l = c.before.before.before.before.loop in
     let a = c.before.before.before.before.before.before.before.args in
-    counted-more _ (spotIn a.points.now a.j a.k) a.ring.now c.edge-crosses.result l.invariant (omega arith) c.edge-crosses.ensures
+    counted_more _ (spot_in a.points.now a.j a.k) a.ring.now c.edge-crosses.result l.invariant (omega arith) c.edge-crosses.ensures
 
 returns-2 : tie.Need-returns-2 invariant-loop decreases-loop
 returns-2 c =
     let b = c.before.before.before.before in
     let a = b.args in
     let l = c.before.loop in
-    counted-all _ (spotIn a.points.now a.j a.k) a.ring.now l.invariant (omega arith)
-    ∙ ap (λ (q : Spot). inside q (steps (spotsIn a.points.now a.j a.k a.ring.now))) (spot_back (spot a.qu a.qv) b.requires.1.1.1)
+    counted-all _ (spot_in a.points.now a.j a.k) a.ring.now l.invariant (omega arith)
+    ∙ ap (λ (q : Spot). inside q (steps (spots_in a.points.now a.j a.k a.ring.now))) (spot_back (spot a.qu a.qv) b.requires.1.1.1)
 
 pub inside-spec : {M : Type 1} → statement M
 inside-spec =

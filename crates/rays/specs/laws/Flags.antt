@@ -44,13 +44,13 @@ xor_comm true false = refl
 xor_comm false true = refl
 xor_comm false false = refl
 
-pub xor-chain : (x y z : Bool) → xor (xor x y) (xor y z) ≡ xor x z
+pub xor_chain : (x y z : Bool) → xor (xor x y) (xor y z) ≡ xor x z
 unfolding xor
-xor-chain true true z = refl
-xor-chain true false z = refl
-xor-chain false true true = refl
-xor-chain false true false = refl
-xor-chain false false z = refl
+xor_chain true true z = refl
+xor_chain true false z = refl
+xor_chain false true true = refl
+xor_chain false true false = refl
+xor_chain false false z = refl
 
 -- as `^` does
 pub beq-xor : (a b : Bool) → not (beq a b) ≡ xor a b

@@ -6,11 +6,11 @@ use Rattle.std.proofs.Math.Bool.{or-false}
 use Rattle.std.specs.Int.Signed.{lt_z, le_z}
 use Rattle.plane.specs.Plane.{Spot, side}
 use Rattle.rays.specs.Inside.{crosses}
-use Rattle.rays.specs.laws.Parity.{crossing, crosses-is}
+use Rattle.rays.specs.laws.Parity.{crossing, crosses_is}
 
 module _ (q a b : Spot) where
   heights : {x y : Bool} → le_z a.v q.v ≡ x → le_z b.v q.v ≡ y → crosses q (a, b) ≡ crossing x y (lt_z (pos 0) (side a b q)) (lt_z (side a b q) (pos 0))
-  heights e f = crosses-is q (a, b) ∙ ap₂ (λ (s t : Bool). crossing s t (lt_z (pos 0) (side a b q)) (lt_z (side a b q) (pos 0))) e f
+  heights e f = crosses_is q (a, b) ∙ ap₂ (λ (s t : Bool). crossing s t (lt_z (pos 0) (side a b q)) (lt_z (side a b q) (pos 0))) e f
 
   pub both-low : le_z a.v q.v ≡ true → le_z b.v q.v ≡ true → false ≡ crosses q (a, b)
   unfolding crossing
@@ -20,10 +20,10 @@ module _ (q a b : Spot) where
   unfolding crossing
   both_high e f = sym (heights e f)
 
-  pub going-up : le_z a.v q.v ≡ true → le_z b.v q.v ≡ false → lt_z (pos 0) (side a b q) ≡ crosses q (a, b)
+  pub going_up : le_z a.v q.v ≡ true → le_z b.v q.v ≡ false → lt_z (pos 0) (side a b q) ≡ crosses q (a, b)
   unfolding crossing
-  going-up e f = sym (heights e f ∙ or-false (lt_z (pos 0) (side a b q)))
+  going_up e f = sym (heights e f ∙ or-false (lt_z (pos 0) (side a b q)))
 
-  pub going-down : le_z a.v q.v ≡ false → le_z b.v q.v ≡ true → lt_z (side a b q) (pos 0) ≡ crosses q (a, b)
+  pub going_down : le_z a.v q.v ≡ false → le_z b.v q.v ≡ true → lt_z (side a b q) (pos 0) ≡ crosses q (a, b)
   unfolding crossing
-  going-down e f = sym (heights e f)
+  going_down e f = sym (heights e f)

@@ -5,19 +5,19 @@ use Rattle.std.proofs.Common.{arith, ap, ap₂, ◌∙◌, subst, true≢false, 
 use Rattle.std.proofs.Math.Path.{refl, sym}
 use Rattle.std.proofs.Math.Bool.{true, false}
 use Rattle.std.specs.Int.Signed.{le_z, le_z_yes, lt_z_yes}
-use Rattle.whole.specs.Lists.{steps, stepsFrom}
+use Rattle.whole.specs.Lists.{steps, steps_from}
 use Rattle.whole.specs.All.{All, none, more}
-use Rattle.whole.specs.laws.Alls.{all-imp}
+use Rattle.whole.specs.laws.Alls.{all_imp}
 use Rattle.whole.specs.laws.Size.{abs_neg}
 use Rattle.whole.specs.laws.Solve.{v, k, ◌⊕◌, ◌⊖◌, ◌⊗◌, ⊝◌, ring, ◌≔◌}
 use Rattle.whole.specs.laws.Ring.{combine}
 use Rattle.whole.specs.laws.Linear.{◌≼◌, ◌≺◌, ◌≈◌, never, ◌⇒◌, lin}
-use Rattle.whole.specs.laws.Tests.{lt_yes, le_yes, le-no, lt_test, le_test, gt-test, lt-le, mul-nonneg, mul-pos-pos}
+use Rattle.whole.specs.laws.Tests.{lt_yes, le_yes, le_no, lt_test, le_test, gt_test, lt_le, mul_nonneg, mul_pos-pos}
 use Rattle.plane.specs.Plane.{Spot, Segment, side}
 use Rattle.plane.specs.laws.Common.{along}
 use Rattle.rays.specs.Inside.{crosses}
-use Rattle.rays.specs.laws.Heights.{going-up, both-low, both_high}
-use Rattle.rays.specs.laws.Signs.{le-or-lt}
+use Rattle.rays.specs.laws.Heights.{going_up, both-low, both_high}
+use Rattle.rays.specs.laws.Signs.{le_or_lt}
 use Rattle.rays.specs.laws.Turned.{crosses-back}
 
 -- m is larger than the way from q to x on the first axis
@@ -32,9 +32,9 @@ pub record RayMeets (m : ℤ) (q : Spot) (e : Segment) : Type 0 where
   pub t : ℤ
   pub positive : pos 0 <ℤ d
   pub s-low : pos 0 ≤ℤ s
-  pub s-top : s ≤ℤ d
+  pub s_top : s ≤ℤ d
   pub ahead : pos 0 <ℤ t
-  pub same-u : along d s e.0.u e.1.u ≡ d *ℤ q.u +ℤ t *ℤ m
+  pub same_u : along d s e.0.u e.1.u ≡ d *ℤ q.u +ℤ t *ℤ m
   pub same-v : along d s e.0.v e.1.v ≡ d *ℤ q.v +ℤ t
 
 -- ---- seen from q: how far x is above the ray's line
@@ -46,14 +46,14 @@ above-line : (m h w : ℤ) → pos 0 <ℤ h → w <ℤ m → neg_ℤ w <ℤ m �
 above-line m h w a b c =
     lin 3 (λ p m w. m ≼ p ⇒ w ≺ m ⇒ k (pos 0) ≺ p ⊖ w) (omega arith) (m *ℤ h) m w
     (lin 3 (λ p m r. r ≈ p ⊖ m ⇒ k (pos 0) ≼ r ⇒ m ≼ p) (omega arith) (m *ℤ h) m (m *ℤ (h -ℤ pos 1)) (ring 2 (λ m h. m ⊗ (h ⊖ k (pos 1)) ≔ m ⊗ h ⊖ m) tt m h)
-    (mul-nonneg (lin 2 (λ m w. w ≺ m ⇒ ⊝ w ≺ m ⇒ k (pos 0) ≼ m) (omega arith) m w b c) (lin 1 (λ h. k (pos 0) ≺ h ⇒ k (pos 0) ≼ h ⊖ k (pos 1)) (omega arith) h a))) b
+    (mul_nonneg (lin 2 (λ m w. w ≺ m ⇒ ⊝ w ≺ m ⇒ k (pos 0) ≼ m) (omega arith) m w b c) (lin 1 (λ h. k (pos 0) ≺ h ⇒ k (pos 0) ≼ h ⊖ k (pos 1)) (omega arith) h a))) b
 
 module _ (m : ℤ) (q x : Spot) (w : Wide m q x) where
-  wide-neg : neg_ℤ (x.u -ℤ q.u) <ℤ m
-  wide-neg = lin 3 (λ x q m. q ⊖ x ≺ m ⇒ ⊝ (x ⊖ q) ≺ m) (omega arith) x.u q.u m w.left
+  wide_neg : neg_ℤ (x.u -ℤ q.u) <ℤ m
+  wide_neg = lin 3 (λ x q m. q ⊖ x ≺ m ⇒ ⊝ (x ⊖ q) ≺ m) (omega arith) x.u q.u m w.left
 
   higher : q.v <ℤ x.v → pos 0 <ℤ over m q x
-  higher h = above-line m (x.v -ℤ q.v) (x.u -ℤ q.u) (lin 2 (λ a b. a ≺ b ⇒ k (pos 0) ≺ b ⊖ a) (omega arith) q.v x.v h) w.right wide-neg
+  higher h = above-line m (x.v -ℤ q.v) (x.u -ℤ q.u) (lin 2 (λ a b. a ≺ b ⇒ k (pos 0) ≺ b ⊖ a) (omega arith) q.v x.v h) w.right wide_neg
 
   lower : x.v <ℤ q.v → over m q x <ℤ pos 0
   lower h =
@@ -62,8 +62,8 @@ module _ (m : ℤ) (q x : Spot) (w : Wide m q x) where
       (ring 5 (λ m xu xv qu qv. m ⊗ (xv ⊖ qv) ⊖ (xu ⊖ qu) ≔ ⊝ (m ⊗ (qv ⊖ xv) ⊖ (qu ⊖ xu))) tt m x.u x.v q.u q.v)
 
   -- no corner is on the ray
-  pub no-corner : (d t : ℤ) → pos 0 <ℤ d → pos 0 <ℤ t → d *ℤ x.u ≡ d *ℤ q.u +ℤ t *ℤ m → d *ℤ x.v ≡ d *ℤ q.v +ℤ t → ⊥
-  no-corner d t hd ht eu ev = go (le-or-lt x.v q.v)
+  pub no_corner : (d t : ℤ) → pos 0 <ℤ d → pos 0 <ℤ t → d *ℤ x.u ≡ d *ℤ q.u +ℤ t *ℤ m → d *ℤ x.v ≡ d *ℤ q.v +ℤ t → ⊥
+  no_corner d t hd ht eu ev = go (le_or_lt x.v q.v)
     where
       -- d times the height is t
       height : d *ℤ (x.v -ℤ q.v) ≡ t
@@ -79,19 +79,19 @@ module _ (m : ℤ) (q x : Spot) (w : Wide m q x) where
       clash = lin 1 (λ y. k (pos 0) ≺ y ⇒ y ≈ k (pos 0) ⇒ never) (omega arith)
 
       go : (x.v ≤ℤ q.v) ⊎ (q.v <ℤ x.v) → ⊥
-      go (inr h) = clash (d *ℤ over m q x) (mul-pos-pos hd (higher h)) flat
+      go (inr h) = clash (d *ℤ over m q x) (mul_pos-pos hd (higher h)) flat
       go (inl h) =
           lin 3 (λ y z t. y ≈ t ⇒ z ≈ ⊝ y ⇒ k (pos 0) ≼ z ⇒ k (pos 0) ≺ t ⇒ never) (omega arith) (d *ℤ (x.v -ℤ q.v)) (d *ℤ (q.v -ℤ x.v)) t height
           (ring 3 (λ d x q. d ⊗ (q ⊖ x) ≔ ⊝ (d ⊗ (x ⊖ q))) tt d x.v q.v)
-          (mul-nonneg (lt-le hd) (lin 2 (λ x q. x ≼ q ⇒ k (pos 0) ≼ q ⊖ x) (omega arith) x.v q.v h)) ht
+          (mul_nonneg (lt_le hd) (lin 2 (λ x q. x ≼ q ⇒ k (pos 0) ≼ q ⊖ x) (omega arith) x.v q.v h)) ht
 
 -- ---- an edge that goes up across the height of q, q being on its left
 module _ (m : ℤ) (q a b : Spot) (wa : Wide m q a) (wb : Wide m q b) where
   abbrev area : ℤ
   area = (b.u -ℤ a.u) *ℤ (q.v -ℤ a.v) -ℤ (b.v -ℤ a.v) *ℤ (q.u -ℤ a.u)
 
-  start-below : a.v ≤ℤ q.v → q.v <ℤ b.v → pos 0 <ℤ area → over m q a <ℤ pos 0
-  start-below h g x = go (le-or-lt q.v a.v)
+  start_below : a.v ≤ℤ q.v → q.v <ℤ b.v → pos 0 <ℤ area → over m q a <ℤ pos 0
+  start_below h g x = go (le_or_lt q.v a.v)
     where
       go : (q.v ≤ℤ a.v) ⊎ (a.v <ℤ q.v) → over m q a <ℤ pos 0
       go (inr l) = lower m q a wa l
@@ -105,18 +105,18 @@ module _ (m : ℤ) (q a b : Spot) (wa : Wide m q a) (wb : Wide m q b) where
           (ap (λ (z : ℤ). m *ℤ (z -ℤ q.v)) e ∙ ring 2 (λ m q. m ⊗ (q ⊖ q) ≔ k (pos 0)) tt m q.v) refl
         where
           right : (x c : ℤ) → pos 0 ≤ℤ c → pos 0 <ℤ (x *ℤ c) → pos 0 <ℤ x
-          right x c h l = pick (le-or-lt x (pos 0))
+          right x c h l = pick (le_or_lt x (pos 0))
             where
               pick : (x ≤ℤ pos 0) ⊎ (pos 0 <ℤ x) → pos 0 <ℤ x
               pick (inr r) = r
               pick (inl r) =
                   absurd
                   (lin 2 (λ y z. k (pos 0) ≺ y ⇒ z ≈ ⊝ y ⇒ k (pos 0) ≼ z ⇒ never) (omega arith) (x *ℤ c) (neg_ℤ x *ℤ c) l (ring 2 (λ x c. ⊝ x ⊗ c ≔ ⊝ (x ⊗ c)) tt x c)
-                  (mul-nonneg (lin 1 (λ x. x ≼ k (pos 0) ⇒ k (pos 0) ≼ ⊝ x) (omega arith) x r) h))
+                  (mul_nonneg (lin 1 (λ x. x ≼ k (pos 0) ⇒ k (pos 0) ≼ ⊝ x) (omega arith) x r) h))
 
   up-meets : a.v ≤ℤ q.v → q.v <ℤ b.v → pos 0 <ℤ area → RayMeets m q (a, b)
   up-meets h g x =
-      let l = start-below h g x in
+      let l = start_below h g x in
       let u = higher m q b wb g in
       record {
         d = over m q b -ℤ over m q a;
@@ -124,9 +124,9 @@ module _ (m : ℤ) (q a b : Spot) (wa : Wide m q a) (wb : Wide m q b) where
         t = area;
         positive = lin 2 (λ x y. x ≺ k (pos 0) ⇒ k (pos 0) ≺ y ⇒ k (pos 0) ≺ y ⊖ x) (omega arith) (over m q a) (over m q b) l u;
         s-low = lin 1 (λ x. x ≺ k (pos 0) ⇒ k (pos 0) ≼ ⊝ x) (omega arith) (over m q a) l;
-        s-top = lin 2 (λ x y. k (pos 0) ≺ y ⇒ ⊝ x ≼ y ⊖ x) (omega arith) (over m q a) (over m q b) u;
+        s_top = lin 2 (λ x y. k (pos 0) ≺ y ⇒ ⊝ x ≼ y ⊖ x) (omega arith) (over m q a) (over m q b) u;
         ahead = x;
-        same-u =
+        same_u =
             ring 7 (λ m au av bu bv qu qv.
             ((m ⊗ (bv ⊖ qv) ⊖ (bu ⊖ qu)) ⊖ (m ⊗ (av ⊖ qv) ⊖ (au ⊖ qu))) ⊗ au ⊕ ⊝ (m ⊗ (av ⊖ qv) ⊖ (au ⊖ qu)) ⊗ (bu ⊖ au)
             ≔ ((m ⊗ (bv ⊖ qv) ⊖ (bu ⊖ qu)) ⊖ (m ⊗ (av ⊖ qv) ⊖ (au ⊖ qu))) ⊗ qu ⊕ ((bu ⊖ au) ⊗ (qv ⊖ av) ⊖ (bv ⊖ av) ⊗ (qu ⊖ au)) ⊗ m)
@@ -145,10 +145,10 @@ meets-back {m} {q} {a} {b} r = record {
   s = r.d -ℤ r.s;
   t = r.t;
   positive = r.positive;
-  s-low = lin 2 (λ d s. s ≼ d ⇒ k (pos 0) ≼ d ⊖ s) (omega arith) r.d r.s r.s-top;
-  s-top = lin 2 (λ d s. k (pos 0) ≼ s ⇒ d ⊖ s ≼ d) (omega arith) r.d r.s r.s-low;
+  s-low = lin 2 (λ d s. s ≼ d ⇒ k (pos 0) ≼ d ⊖ s) (omega arith) r.d r.s r.s_top;
+  s_top = lin 2 (λ d s. k (pos 0) ≼ s ⇒ d ⊖ s ≼ d) (omega arith) r.d r.s r.s-low;
   ahead = r.ahead;
-  same-u = turn r.d r.s a.u b.u ∙ r.same-u;
+  same_u = turn r.d r.s a.u b.u ∙ r.same_u;
   same-v = turn r.d r.s a.v b.v ∙ r.same-v;
 }
   where
@@ -159,18 +159,18 @@ meets-back {m} {q} {a} {b} r = record {
 mix : (d s x y : ℤ) → pos 0 <ℤ d → pos 0 ≤ℤ s → s ≤ℤ d → pos 0 <ℤ x → pos 0 <ℤ y → pos 0 <ℤ ((d -ℤ s) *ℤ x +ℤ s *ℤ y)
 mix d s x y hd lo hi hx hy =
     lin 4 (λ d p q z. k (pos 0) ≺ d ⇒ k (pos 0) ≼ p ⇒ k (pos 0) ≼ q ⇒ z ≈ d ⊕ (p ⊕ q) ⇒ k (pos 0) ≺ z) (omega arith) d ((d -ℤ s) *ℤ (x -ℤ pos 1)) (s *ℤ (y -ℤ pos 1)) ((d -ℤ s) *ℤ x +ℤ s *ℤ y) hd
-    (mul-nonneg (lin 2 (λ d s. s ≼ d ⇒ k (pos 0) ≼ d ⊖ s) (omega arith) d s hi) (less x hx))
-    (mul-nonneg lo (less y hy))
+    (mul_nonneg (lin 2 (λ d s. s ≼ d ⇒ k (pos 0) ≼ d ⊖ s) (omega arith) d s hi) (less x hx))
+    (mul_nonneg lo (less y hy))
     (ring 4 (λ d s x y. (d ⊖ s) ⊗ x ⊕ s ⊗ y ≔ d ⊕ ((d ⊖ s) ⊗ (x ⊖ k (pos 1)) ⊕ s ⊗ (y ⊖ k (pos 1)))) tt d s x y)
   where
     less : (x : ℤ) → pos 0 <ℤ x → pos 0 ≤ℤ (x -ℤ pos 1)
     less = lin 1 (λ x. k (pos 0) ≺ x ⇒ k (pos 0) ≼ x ⊖ k (pos 1)) (omega arith)
 
-mix-low : (d s x y : ℤ) → pos 0 ≤ℤ s → s ≤ℤ d → x ≤ℤ pos 0 → y ≤ℤ pos 0 → ((d -ℤ s) *ℤ x +ℤ s *ℤ y) ≤ℤ pos 0
-mix-low d s x y lo hi hx hy =
+mix_low : (d s x y : ℤ) → pos 0 ≤ℤ s → s ≤ℤ d → x ≤ℤ pos 0 → y ≤ℤ pos 0 → ((d -ℤ s) *ℤ x +ℤ s *ℤ y) ≤ℤ pos 0
+mix_low d s x y lo hi hx hy =
     lin 3 (λ p q z. k (pos 0) ≼ p ⇒ k (pos 0) ≼ q ⇒ z ≈ ⊝ (p ⊕ q) ⇒ z ≼ k (pos 0)) (omega arith) ((d -ℤ s) *ℤ neg_ℤ x) (s *ℤ neg_ℤ y) ((d -ℤ s) *ℤ x +ℤ s *ℤ y)
-    (mul-nonneg (lin 2 (λ d s. s ≼ d ⇒ k (pos 0) ≼ d ⊖ s) (omega arith) d s hi) (flip x hx))
-    (mul-nonneg lo (flip y hy))
+    (mul_nonneg (lin 2 (λ d s. s ≼ d ⇒ k (pos 0) ≼ d ⊖ s) (omega arith) d s hi) (flip x hx))
+    (mul_nonneg lo (flip y hy))
     (ring 4 (λ d s x y. (d ⊖ s) ⊗ x ⊕ s ⊗ y ≔ ⊝ ((d ⊖ s) ⊗ ⊝ x ⊕ s ⊗ ⊝ y)) tt d s x y)
   where
     flip : (x : ℤ) → x ≤ℤ pos 0 → pos 0 ≤ℤ neg_ℤ x
@@ -185,7 +185,7 @@ module _ (m : ℤ) (q a b : Spot) (wa : Wide m q a) (wb : Wide m q b) (r : RayMe
 
   shifted : (r.d -ℤ r.s) *ℤ (a.u -ℤ q.u) +ℤ r.s *ℤ (b.u -ℤ q.u) ≡ r.t *ℤ m
   shifted =
-      combine (pos 1) ((r.d -ℤ r.s) *ℤ (a.u -ℤ q.u) +ℤ r.s *ℤ (b.u -ℤ q.u)) (r.t *ℤ m) r.same-u
+      combine (pos 1) ((r.d -ℤ r.s) *ℤ (a.u -ℤ q.u) +ℤ r.s *ℤ (b.u -ℤ q.u)) (r.t *ℤ m) r.same_u
       (ring 7 (λ d s t m a b q. ((d ⊖ s) ⊗ (a ⊖ q) ⊕ s ⊗ (b ⊖ q)) ⊖ t ⊗ m ≔ k (pos 1) ⊗ ((d ⊗ a ⊕ s ⊗ (b ⊖ a)) ⊖ (d ⊗ q ⊕ t ⊗ m))) tt r.d r.s r.t m a.u b.u q.u)
 
   balanced : (r.d -ℤ r.s) *ℤ over m q a +ℤ r.s *ℤ over m q b ≡ pos 0
@@ -200,16 +200,16 @@ module _ (m : ℤ) (q a b : Spot) (wa : Wide m q a) (wb : Wide m q b) (r : RayMe
   not-both-low : a.v ≤ℤ q.v → b.v ≤ℤ q.v → ⊥
   not-both-low h g =
       lin 2 (λ y t. y ≼ k (pos 0) ⇒ y ≈ t ⇒ k (pos 0) ≺ t ⇒ never) (omega arith) ((r.d -ℤ r.s) *ℤ (a.v -ℤ q.v) +ℤ r.s *ℤ (b.v -ℤ q.v)) r.t
-      (mix-low r.d r.s (a.v -ℤ q.v) (b.v -ℤ q.v) r.s-low r.s-top (down a.v q.v h) (down b.v q.v g)) risen r.ahead
+      (mix_low r.d r.s (a.v -ℤ q.v) (b.v -ℤ q.v) r.s-low r.s_top (down a.v q.v h) (down b.v q.v g)) risen r.ahead
     where
       down : (x q : ℤ) → x ≤ℤ q → (x -ℤ q) ≤ℤ pos 0
       down = lin 2 (λ x q. x ≼ q ⇒ x ⊖ q ≼ k (pos 0)) (omega arith)
 
   not-both-over : pos 0 <ℤ over m q a → pos 0 <ℤ over m q b → ⊥
-  not-both-over h g = clash ((r.d -ℤ r.s) *ℤ over m q a +ℤ r.s *ℤ over m q b) (mix r.d r.s (over m q a) (over m q b) r.positive r.s-low r.s-top h g) balanced
+  not-both-over h g = clash ((r.d -ℤ r.s) *ℤ over m q a +ℤ r.s *ℤ over m q b) (mix r.d r.s (over m q a) (over m q b) r.positive r.s-low r.s_top h g) balanced
 
   left-of : a.v ≤ℤ q.v → q.v <ℤ b.v → pos 0 <ℤ area m q a b wa wb
-  left-of h g = go (le-or-lt (area m q a b wa wb) (pos 0))
+  left-of h g = go (le_or_lt (area m q a b wa wb) (pos 0))
     where
       u : pos 0 <ℤ over m q b
       u = higher m q b wb g
@@ -231,18 +231,18 @@ module _ (m : ℤ) (q a b : Spot) (wa : Wide m q a) (wb : Wide m q b) (r : RayMe
       go (inl x) =
           absurd
           (lin 3 (λ y z w. k (pos 0) ≺ y ⇒ y ≈ z ⇒ w ≈ ⊝ z ⇒ k (pos 0) ≼ w ⇒ never) (omega arith) (r.t *ℤ (over m q b -ℤ over m q a)) (r.d *ℤ area m q a b wa wb) (r.d *ℤ neg_ℤ (area m q a b wa wb))
-          (mul-pos-pos r.ahead (rise (le-or-lt (over m q a) (pos 0)))) same (ring 2 (λ d x. d ⊗ ⊝ x ≔ ⊝ (d ⊗ x)) tt r.d (area m q a b wa wb))
-          (mul-nonneg (lt-le r.positive) (lin 1 (λ x. x ≼ k (pos 0) ⇒ k (pos 0) ≼ ⊝ x) (omega arith) (area m q a b wa wb) x)))
+          (mul_pos-pos r.ahead (rise (le_or_lt (over m q a) (pos 0)))) same (ring 2 (λ d x. d ⊗ ⊝ x ≔ ⊝ (d ⊗ x)) tt r.d (area m q a b wa wb))
+          (mul_nonneg (lt_le r.positive) (lin 1 (λ x. x ≼ k (pos 0) ⇒ k (pos 0) ≼ ⊝ x) (omega arith) (area m q a b wa wb) x)))
 
   meets-up : a.v ≤ℤ q.v → q.v <ℤ b.v → crosses q (a, b) ≡ true
   unfolding side
-  meets-up h g = sym (going-up q a b (le_is h) (gt-is g)) ∙ lt_test (left-of h g)
+  meets-up h g = sym (going_up q a b (le_is h) (gt-is g)) ∙ lt_test (left-of h g)
     where
       le_is : a.v ≤ℤ q.v → le_z a.v q.v ≡ true
       le_is h = le_test h
 
       gt-is : q.v <ℤ b.v → le_z b.v q.v ≡ false
-      gt-is h = gt-test h
+      gt-is h = gt_test h
 
 -- An edge crosses exactly when it has a point in common with the ray.
 module _ (m : ℤ) (q a b : Spot) (wa : Wide m q a) (wb : Wide m q b) where
@@ -252,13 +252,13 @@ module _ (m : ℤ) (q a b : Spot) (wa : Wide m q a) (wb : Wide m q b) where
     where
       go : (x : Bool) → le_z a.v q.v ≡ x → (y : Bool) → le_z b.v q.v ≡ y → RayMeets m q (a, b)
       go true h true g = absurd (true≢false (sym e ∙ sym (both-low q a b h g)))
-      go true h false g = up-meets m q a b wa wb (le_yes refl refl h) (le-no refl refl g) (lt_yes refl refl (going-up q a b h g ∙ e))
+      go true h false g = up-meets m q a b wa wb (le_yes refl refl h) (le_no refl refl g) (lt_yes refl refl (going_up q a b h g ∙ e))
       go false h true g =
-          meets-back (up-meets m q b a wb wa (le_yes refl refl g) (le-no refl refl h) (lt_yes refl refl (going-up q b a g h ∙ crosses-back q (a, b) ∙ e)))
+          meets-back (up-meets m q b a wb wa (le_yes refl refl g) (le_no refl refl h) (lt_yes refl refl (going_up q b a g h ∙ crosses-back q (a, b) ∙ e)))
       go false h false g = absurd (true≢false (sym e ∙ sym (both_high q a b h g)))
 
   pub meets-crosses : RayMeets m q (a, b) → crosses q (a, b) ≡ true
-  meets-crosses r = go (le-or-lt a.v q.v) (le-or-lt b.v q.v)
+  meets-crosses r = go (le_or_lt a.v q.v) (le_or_lt b.v q.v)
     where
       go : (a.v ≤ℤ q.v) ⊎ (q.v <ℤ a.v) → (b.v ≤ℤ q.v) ⊎ (q.v <ℤ b.v) → crosses q (a, b) ≡ true
       go (inl h) (inl g) = absurd (not-both-low m q a b wa wb r h g)
@@ -271,17 +271,17 @@ pub record Direction (q : Spot) (l : List Spot) : Type 0 where
   pub m : ℕ
   pub wide : All (Wide (pos m) q) l
 
-le-size : (z : ℤ) → z ≤ℤ pos (nat_abs z)
-le-size (pos n) = le_z_yes (le→leb n n (omega arith))
-le-size (negsuc n) = le_z_yes tt
+le_size : (z : ℤ) → z ≤ℤ pos (nat_abs z)
+le_size (pos n) = le_z_yes (le→leb n n (omega arith))
+le_size (negsuc n) = le_z_yes tt
 
-pos-lt : (a b : ℕ) → a < b → pos a <ℤ pos b
-pos-lt a b h = lt_z_yes (lt→ltb a b h)
+pos_lt : (a b : ℕ) → a < b → pos a <ℤ pos b
+pos_lt a b h = lt_z_yes (lt→ltb a b h)
 
 wide_by : (q x : Spot) (n : ℕ) → nat_abs (x.u -ℤ q.u) < n → Wide (pos n) q x
 wide_by q x n h = record {
-  right = lin 3 (λ z s n. z ≼ s ⇒ s ≺ n ⇒ z ≺ n) (omega arith) (x.u -ℤ q.u) (pos (nat_abs (x.u -ℤ q.u))) (pos n) (le-size (x.u -ℤ q.u)) (pos-lt (nat_abs (x.u -ℤ q.u)) n h);
-  left = lin 3 (λ z s n. z ≼ s ⇒ s ≺ n ⇒ z ≺ n) (omega arith) (q.u -ℤ x.u) (pos (nat_abs (q.u -ℤ x.u))) (pos n) (le-size (q.u -ℤ x.u)) (pos-lt (nat_abs (q.u -ℤ x.u)) n (subst (λ (k : ℕ). k < n) (sym (abs_neg (x.u -ℤ q.u)) ∙ ap nat_abs (ring 2 (λ x q. ⊝ (x ⊖ q) ≔ q ⊖ x) tt x.u q.u)) h));
+  right = lin 3 (λ z s n. z ≼ s ⇒ s ≺ n ⇒ z ≺ n) (omega arith) (x.u -ℤ q.u) (pos (nat_abs (x.u -ℤ q.u))) (pos n) (le_size (x.u -ℤ q.u)) (pos_lt (nat_abs (x.u -ℤ q.u)) n h);
+  left = lin 3 (λ z s n. z ≼ s ⇒ s ≺ n ⇒ z ≺ n) (omega arith) (q.u -ℤ x.u) (pos (nat_abs (q.u -ℤ x.u))) (pos n) (le_size (q.u -ℤ x.u)) (pos_lt (nat_abs (q.u -ℤ x.u)) n (subst (λ (k : ℕ). k < n) (sym (abs_neg (x.u -ℤ q.u)) ∙ ap nat_abs (ring 2 (λ x q. ⊝ (x ⊖ q) ≔ q ⊖ x) tt x.u q.u)) h));
 }
 
 wider : {q x : Spot} (n n' : ℕ) → n ≤ n' → Wide (pos n) q x → Wide (pos n') q x
@@ -295,7 +295,7 @@ direction q [] = record { m = 0; wide = none }
 direction q (x ∷ l) =
     let d = direction q l in
     let n = suc (nat_abs (x.u -ℤ q.u) + d.m) in
-    record { m = n; wide = more (wide_by q x n (omega arith)) (all-imp (λ y w. wider d.m n (omega arith) w) d.wide) }
+    record { m = n; wide = more (wide_by q x n (omega arith)) (all_imp (λ y w. wider d.m n (omega arith) w) d.wide) }
 
 -- "a ray from it through no corner": there is one that the edges which cross meet, and no others
 pub record Cast (q : Spot) (ring : List Spot) : Type 0 where
@@ -304,15 +304,15 @@ pub record Cast (q : Spot) (ring : List Spot) : Type 0 where
   pub meets : All (λ (e : Segment). (crosses q e ≡ true → RayMeets m q e) × (RayMeets m q e → crosses q e ≡ true)) (steps ring)
 
 pub cast : (q : Spot) (ring : List Spot) → Cast q ring
-unfolding steps stepsFrom
+unfolding steps steps_from
 cast q ring =
     let d = direction q ring in
-    record { m = pos d.m; misses = all-imp (λ x w. no-corner (pos d.m) q x w) d.wide; meets = each d.wide }
+    record { m = pos d.m; misses = all_imp (λ x w. no_corner (pos d.m) q x w) d.wide; meets = each d.wide }
   where
     each : {m : ℤ} {l : List Spot} → All (Wide m q) l → All (λ (e : Segment). (crosses q e ≡ true → RayMeets m q e) × (RayMeets m q e → crosses q e ≡ true)) (steps l)
     each none = none
     each {m} (more {x = a} {l = l} w ws) = go a l w ws
       where
-        go : (a : Spot) (l : List Spot) → Wide m q a → All (Wide m q) l → All (λ (e : Segment). (crosses q e ≡ true → RayMeets m q e) × (RayMeets m q e → crosses q e ≡ true)) (stepsFrom a l)
+        go : (a : Spot) (l : List Spot) → Wide m q a → All (Wide m q) l → All (λ (e : Segment). (crosses q e ≡ true → RayMeets m q e) × (RayMeets m q e → crosses q e ≡ true)) (steps_from a l)
         go a [] w none = none
         go a (b ∷ l) w (more x xs) = more (crosses-meets m q a b w x, meets-crosses m q a b w x) (go b l x xs)

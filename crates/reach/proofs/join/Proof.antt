@@ -3,10 +3,10 @@ use mathlib.Core.Path.{◌≡◌, refl, sym, subst, ◌∙◌}
 use mathlib.Core.List.{List}
 use Prim.Native.Nat.{ℕ}
 use borrow.Author.Rules.{rules}
-use Rattle.bits.specs.held.Bits.{marksOf}
-use Rattle.bits.specs.laws.Words.{spread-small}
+use Rattle.bits.specs.held.Bits.{marks_of}
+use Rattle.bits.specs.laws.Words.{spread_small}
 use Rattle.reach.specs.held.Marking.{Joint}
-use Rattle.reach.specs.laws.Marks.{words-hold}
+use Rattle.reach.specs.laws.Marks.{words_hold}
 use Rattle.reach.specs.laws.Joins.{joint-both, joint-none, joint-first, joint-second}
 use Rattle.reach.proofs.join.Statement.{statement}
 use Rattle.reach.proofs.join.Tie as tie
@@ -23,7 +23,7 @@ same_length c = search rules
 returns : tie.Need-returns
 returns c = let k = c.before.before.before.before.before.before.before in
     let a = k.args in
-    (refl, joint-both (marksOf a.marks.now) (spread-small 64 a.marks.now) a.x a.y (sym c.before.if1.true ∙ c.before.before.before.before.is-marked.ensures) (sym c.if2.true ∙ c.before.before.is-marked2.ensures))
+    (refl, joint-both (marks_of a.marks.now) (spread_small 64 a.marks.now) a.x a.y (sym c.before.if1.true ∙ c.before.before.before.before.is-marked.ensures) (sym c.if2.true ∙ c.before.before.is-marked2.ensures))
 
 mark-requires : tie.Need-mark-requires
 mark-requires c κs = search rules
@@ -35,7 +35,7 @@ returns-2 : tie.Need-returns-2
 returns-2 c = let k = c.before.before.before.before.before.before.before.before.before.before.before in
     let a = k.args in
     let e = c.before.before.mark.ensures in
-    (e.0, subst (λ (m : List ℕ). Joint a.x a.y (marksOf a.marks.now) m 1) (sym e.1) (joint-first (marksOf a.marks.now) (spread-small 64 a.marks.now) a.x a.y (words-hold a.marks.now a.x k.requires.0) (sym c.before.before.before.before.before.if1.true ∙ c.before.before.before.before.before.before.before.before.is-marked.ensures) (sym c.before.before.before.before.if2.false ∙ c.before.before.before.before.before.before.is-marked2.ensures)))
+    (e.0, subst (λ (m : List ℕ). Joint a.x a.y (marks_of a.marks.now) m 1) (sym e.1) (joint-first (marks_of a.marks.now) (spread_small 64 a.marks.now) a.x a.y (words_hold a.marks.now a.x k.requires.0) (sym c.before.before.before.before.before.if1.true ∙ c.before.before.before.before.before.before.before.before.is-marked.ensures) (sym c.before.before.before.before.if2.false ∙ c.before.before.before.before.before.before.is-marked2.ensures)))
 
 mark-requires-2 : tie.Need-mark-requires-2
 mark-requires-2 c κs = search rules
@@ -47,7 +47,7 @@ returns-3 : tie.Need-returns-3
 returns-3 c = let k = c.before.before.before.before.before.before.before.before.before.before.before in
     let a = k.args in
     let e = c.before.before.mark2.ensures in
-    (e.0, subst (λ (m : List ℕ). Joint a.x a.y (marksOf a.marks.now) m 1) (sym e.1) (joint-second (marksOf a.marks.now) (spread-small 64 a.marks.now) a.x a.y (words-hold a.marks.now a.y k.requires.1) (sym c.before.before.before.before.before.if1.false ∙ c.before.before.before.before.before.before.before.before.is-marked.ensures) (sym c.before.before.before.before.if3.true ∙ c.before.before.before.before.before.before.is-marked2.ensures)))
+    (e.0, subst (λ (m : List ℕ). Joint a.x a.y (marks_of a.marks.now) m 1) (sym e.1) (joint-second (marks_of a.marks.now) (spread_small 64 a.marks.now) a.x a.y (words_hold a.marks.now a.y k.requires.1) (sym c.before.before.before.before.before.if1.false ∙ c.before.before.before.before.before.before.before.before.is-marked.ensures) (sym c.before.before.before.before.if3.true ∙ c.before.before.before.before.before.before.is-marked2.ensures)))
 
 same-length-4 : tie.Need-same-length-4
 same-length-4 c = search rules
@@ -55,7 +55,7 @@ same-length-4 c = search rules
 returns-4 : tie.Need-returns-4
 returns-4 c = let k = c.before.before.before.before.before.before.before in
     let a = k.args in
-    (refl, joint-none (marksOf a.marks.now) (spread-small 64 a.marks.now) a.x a.y (sym c.before.if1.false ∙ c.before.before.before.before.is-marked.ensures) (sym c.if3.false ∙ c.before.before.is-marked2.ensures))
+    (refl, joint-none (marks_of a.marks.now) (spread_small 64 a.marks.now) a.x a.y (sym c.before.if1.false ∙ c.before.before.before.before.is-marked.ensures) (sym c.if3.false ∙ c.before.before.is-marked2.ensures))
 
 pub join-spec : {M : Type 1} → statement M
 join-spec =

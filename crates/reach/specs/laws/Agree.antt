@@ -6,8 +6,8 @@ use Rattle.whole.specs.laws.Agree.{agree}
 use Rattle.reach.specs.held.Marking.{Joint}
 
 -- `join`: the marks, and what it tells
-pub join-agree : (x y : ℕ) (m m₁ m₂ : List ℕ) (r₁ r₂ : ℕ) → Joint x y m m₁ r₁ → Joint x y m m₂ r₂ → (m₁ ≡ m₂) × (r₁ ≡ r₂)
-join-agree x y m m₁ m₂ r₁ r₂ a b =
+pub join_agree : (x y : ℕ) (m m₁ m₂ : List ℕ) (r₁ r₂ : ℕ) → Joint x y m m₁ r₁ → Joint x y m m₂ r₂ → (m₁ ≡ m₂) × (r₁ ≡ r₂)
+join_agree x y m m₁ m₂ r₁ r₂ a b =
     by_cases
     (ℕ_discrete (get_or m x 0) (get_or m y 0))
     (λ e. (agree (a.same e).0 (b.same e).0, agree (a.same e).1 (b.same e).1))

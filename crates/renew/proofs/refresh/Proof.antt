@@ -4,7 +4,7 @@ use mathlib.Core.Path.{ap}
 use lib.ListN.{set}
 use lib.IntN.{ℤ}
 use mir.Syntax.{w64}
-use Rattle.whole.specs.laws.Size.{call-is}
+use Rattle.whole.specs.laws.Size.{call_is}
 use borrow.Author.Rules.{rules}
 use Rattle.renew.proofs.refresh.Statement.{statement}
 use Rattle.renew.proofs.refresh.Tie as tie
@@ -51,7 +51,7 @@ returns c =
     let l = c.before.look_at.ensures in
     record {
       found = ap (λ (v : ℕ). set a.findings.now a.p v) l.0;
-      summed = ap (λ (z : ℤ). set a.parts.now a.p z) (call-is w64 c.struct_told.given.1.0.1 l.1);
+      summed = ap (λ (z : ℤ). set a.parts.now a.p z) (call_is w64 c.struct_told.given.1.0.1 l.1);
     }
 
 pub refresh-spec : {M : Type 1} → statement M

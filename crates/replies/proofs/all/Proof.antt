@@ -1,7 +1,7 @@
 -- `replies::all` meets its contract.
-use Rattle.replies.specs.laws.Loop.{running-idle, running-turn, running-end, room-left, rings-left, valid-idle, Running}
+use Rattle.replies.specs.laws.Loop.{running_idle, running_turn, running_end, room_left, rings-left, valid_idle, Running}
 use Rattle.building.specs.held.Holds.{Arrays, arrays}
-use Rattle.lines.specs.laws.LineLaws.{end-above, end-inside}
+use Rattle.lines.specs.laws.LineLaws.{end_above, end_inside}
 use borrow.Author.Rules.{rules}
 use lib.ListN.{length}
 use native.Mathlib.Omega.{arith}
@@ -49,7 +49,7 @@ idle-requires c κs = search rules
 
 loop-holds : tie.Need-loop-init invariant-loop decreases-loop
 loop-holds c =
-    running-idle c.before.before.before.before.before.before.before.before.before.before.before.before.args.stream.now c.before.before.before.before.before.before.before.before.before.before.before.before.args.room.now _ c.idle.result c.idle.ensures (valid-idle _ c.before.before.before.before.before.before.before.before.before.fresh-points.ensures c.before.before.before.before.before.before.before.before.fresh-entries.ensures c.before.before.before.before.before.before.before.fresh-starts.ensures.0 c.before.before.before.before.before.before.before.fresh-starts.ensures.1 c.before.before.before.before.before.before.fresh-firsts.ensures.0 c.before.before.before.before.before.before.fresh-firsts.ensures.1
+    running_idle c.before.before.before.before.before.before.before.before.before.before.before.before.args.stream.now c.before.before.before.before.before.before.before.before.before.before.before.before.args.room.now _ c.idle.result c.idle.ensures (valid_idle _ c.before.before.before.before.before.before.before.before.before.fresh-points.ensures c.before.before.before.before.before.before.before.before.fresh-entries.ensures c.before.before.before.before.before.before.before.fresh-starts.ensures.0 c.before.before.before.before.before.before.before.fresh-starts.ensures.1 c.before.before.before.before.before.before.fresh-firsts.ensures.0 c.before.before.before.before.before.before.fresh-firsts.ensures.1
     (record { stamps = c.before.before.before.before.before.fresh-stamps.ensures; findings = c.before.before.before.before.fresh-findings.ensures; parts = c.before.before.before.fresh-parts.ensures; table = c.before.before.fresh-table.ensures.0; turned = c.before.fresh-turned.ensures }) c.before.before.fresh-table.ensures.1) c.before.before.before.before.before.before.before.before.before.before.before.before.requires.1.0 c.before.before.before.before.before.before.before.before.before.before.before.before.requires.1.1
 
 line-end-requires : tie.Need-line-end-requires invariant-loop decreases-loop
@@ -59,24 +59,24 @@ sub-one : tie.Need-overflow-sub-one invariant-loop decreases-loop
 sub-one c =
     let l = c.before.before.loop in
     let e = c.line-end.ensures in
-    let h = end-above c.before.before.before.before.before.before.before.before.before.before.before.before.before.before.before.args.stream.now l.from in
-    let i = end-inside c.before.before.before.before.before.before.before.before.before.before.before.before.before.before.before.args.stream.now l.from (omega arith) in
+    let h = end_above c.before.before.before.before.before.before.before.before.before.before.before.before.before.before.before.args.stream.now l.from in
+    let i = end_inside c.before.before.before.before.before.before.before.before.before.before.before.before.before.before.before.args.stream.now l.from (omega arith) in
     omega arith
 
 part-one-start : tie.Need-slice-bounds-one-start invariant-loop decreases-loop
 part-one-start c =
     let l = c.before.before.loop in
     let e = c.line-end.ensures in
-    let h = end-above c.before.before.before.before.before.before.before.before.before.before.before.before.before.before.before.args.stream.now l.from in
-    let i = end-inside c.before.before.before.before.before.before.before.before.before.before.before.before.before.before.before.args.stream.now l.from (omega arith) in
+    let h = end_above c.before.before.before.before.before.before.before.before.before.before.before.before.before.before.before.args.stream.now l.from in
+    let i = end_inside c.before.before.before.before.before.before.before.before.before.before.before.before.before.before.before.args.stream.now l.from (omega arith) in
     omega arith
 
 part-one-end : tie.Need-slice-bounds-one-end invariant-loop decreases-loop
 part-one-end c =
     let l = c.before.before.loop in
     let e = c.line-end.ensures in
-    let h = end-above c.before.before.before.before.before.before.before.before.before.before.before.before.before.before.before.args.stream.now l.from in
-    let i = end-inside c.before.before.before.before.before.before.before.before.before.before.before.before.before.before.before.args.stream.now l.from (omega arith) in
+    let h = end_above c.before.before.before.before.before.before.before.before.before.before.before.before.before.before.before.args.stream.now l.from in
+    let i = end_inside c.before.before.before.before.before.before.before.before.before.before.before.before.before.before.before.args.stream.now l.from (omega arith) in
     omega arith
 
 one-requires : tie.Need-one-requires invariant-loop decreases-loop
@@ -85,28 +85,28 @@ one-requires c κs =
     let l = c.before.before.before.before.before.before.before.before.before.before.before.before.before.loop in
     let w : Arrays = arrays l.points l.entries l.starts l.firsts l.stamps l.findings l.parts l.table l.turned in
     let more = c.before.before.before.before.before.before.before.before.before.before.before.before.loop-test.true in
-    ((room-left g.stream.now g.room.now l.room w l.d l.from l.invariant more, rings-left g.stream.now g.room.now l.room w l.d l.from l.invariant more), l.invariant.valid)
+    ((room_left g.stream.now g.room.now l.room w l.d l.from l.invariant more, rings-left g.stream.now g.room.now l.room w l.d l.from l.invariant more), l.invariant.valid)
 
 add-from : tie.Need-overflow-add-from invariant-loop decreases-loop
 add-from c =
     let l = c.before.before.before.before.before.before.before.before.before.before.before.before.before.before.before.before.loop in
     let e = c.before.before.before.before.before.before.before.before.before.before.before.before.before.before.line-end.ensures in
-    let h = end-above c.before.before.before.before.before.before.before.before.before.before.before.before.before.before.before.before.before.before.before.before.before.before.before.before.before.before.before.before.before.args.stream.now l.from in
-    let i = end-inside c.before.before.before.before.before.before.before.before.before.before.before.before.before.before.before.before.before.before.before.before.before.before.before.before.before.before.before.before.before.args.stream.now l.from (omega arith) in
+    let h = end_above c.before.before.before.before.before.before.before.before.before.before.before.before.before.before.before.before.before.before.before.before.before.before.before.before.before.before.before.before.before.args.stream.now l.from in
+    let i = end_inside c.before.before.before.before.before.before.before.before.before.before.before.before.before.before.before.before.before.before.before.before.before.before.before.before.before.before.before.before.before.args.stream.now l.from (omega arith) in
     omega (arith, c.before.before.before.before.before.before.before.before.before.before.before.before.before.before.before.before.before.before.before.before.before.before.before.before.before.before.before.before.before.requires.0)
 
 loop-less : tie.Need-loop-smaller invariant-loop decreases-loop
 loop-less c =
     let l = c.before.before.before.before.before.before.before.before.before.before.before.before.before.before.before.before.loop in
     let e = c.before.before.before.before.before.before.before.before.before.before.before.before.before.before.line-end.ensures in
-    let h = end-above c.before.before.before.before.before.before.before.before.before.before.before.before.before.before.before.before.before.before.before.before.before.before.before.before.before.before.before.before.before.args.stream.now l.from in
-    let i = end-inside c.before.before.before.before.before.before.before.before.before.before.before.before.before.before.before.before.before.before.before.before.before.before.before.before.before.before.before.before.before.args.stream.now l.from (omega arith) in
+    let h = end_above c.before.before.before.before.before.before.before.before.before.before.before.before.before.before.before.before.before.before.before.before.before.before.before.before.before.before.before.before.before.args.stream.now l.from in
+    let i = end_inside c.before.before.before.before.before.before.before.before.before.before.before.before.before.before.before.before.before.before.before.before.before.before.before.before.before.before.before.before.before.args.stream.now l.from (omega arith) in
     omega arith
 
 loop-again : tie.Need-loop-preserved invariant-loop decreases-loop
 loop-again c =
     let l = c.before.before.before.before.before.before.before.before.before.before.before.before.before.before.before.before.loop in
-    running-turn c.before.before.before.before.before.before.before.before.before.before.before.before.before.before.before.before.before.before.before.before.before.before.before.before.before.before.before.before.before.args.stream.now c.before.before.before.before.before.before.before.before.before.before.before.before.before.before.before.before.before.before.before.before.before.before.before.before.before.before.before.before.before.args.room.now l.room (arrays l.points l.entries l.starts l.firsts l.stamps l.findings l.parts l.table l.turned) l.d l.from l.invariant c.before.before.before.before.before.before.before.before.before.before.before.before.before.before.before.loop-test.true c.before.before.before.before.before.before.before.before.before.before.before.before.before.before.line-end.result c.before.before.before.before.before.before.before.before.before.before.before.before.before.before.line-end.ensures _ _ _ c.before.before.one.ensures
+    running_turn c.before.before.before.before.before.before.before.before.before.before.before.before.before.before.before.before.before.before.before.before.before.before.before.before.before.before.before.before.before.args.stream.now c.before.before.before.before.before.before.before.before.before.before.before.before.before.before.before.before.before.before.before.before.before.before.before.before.before.before.before.before.before.args.room.now l.room (arrays l.points l.entries l.starts l.firsts l.stamps l.findings l.parts l.table l.turned) l.d l.from l.invariant c.before.before.before.before.before.before.before.before.before.before.before.before.before.before.before.loop-test.true c.before.before.before.before.before.before.before.before.before.before.before.before.before.before.line-end.result c.before.before.before.before.before.before.before.before.before.before.before.before.before.before.line-end.ensures _ _ _ c.before.before.one.ensures
 
 same_length : tie.Need-same-length invariant-loop decreases-loop
 same_length c = search rules
@@ -114,7 +114,7 @@ same_length c = search rules
 returns : tie.Need-returns invariant-loop decreases-loop
 returns c =
     let l = c.before.loop in
-    running-end c.before.before.before.before.before.before.before.before.before.before.before.before.before.before.args.stream.now c.before.before.before.before.before.before.before.before.before.before.before.before.before.before.args.room.now l.room (arrays l.points l.entries l.starts l.firsts l.stamps l.findings l.parts l.table l.turned) l.d l.from l.invariant c.loop-test.false
+    running_end c.before.before.before.before.before.before.before.before.before.before.before.before.before.before.args.stream.now c.before.before.before.before.before.before.before.before.before.before.before.before.before.before.args.room.now l.room (arrays l.points l.entries l.starts l.firsts l.stamps l.findings l.parts l.table l.turned) l.d l.from l.invariant c.loop-test.false
 
 pub all-spec : {M : Type 1} → statement M
 all-spec =

@@ -1,14 +1,14 @@
 -- `replies::one` meets its contract.
 use mir.Syntax.{w64}
-use Rattle.desk.specs.laws.Dids.{did-refused}
-use Rattle.across.specs.laws.Dids.{valid-sorted}
-use Rattle.replies.specs.laws.Loop.{did-step}
+use Rattle.desk.specs.laws.Dids.{did_refused}
+use Rattle.across.specs.laws.Dids.{valid_sorted}
+use Rattle.replies.specs.laws.Loop.{did_step}
 use Rattle.desk.specs.held.Holds.{service}
-use Rattle.service.specs.laws.Handlers.{of-broken}
-use Rattle.service.specs.Service.{isAccepted}
+use Rattle.service.specs.laws.Handlers.{of_broken}
+use Rattle.service.specs.Service.{is_accepted_of}
 use Rattle.service.specs.declared.Refusal.TheVariants.{Malformed}
-use Rattle.frame.specs.Frame.{begin, point, polygon, end-of-load, move, inner, broken, decode, numbers}
-use Rattle.frame.specs.laws.Decoded.{polygon-count, polygon-few, polygon-listed, polygon-ring, inner-count, inner-few, inner-listed, inner-ring}
+use Rattle.frame.specs.Frame.{begin, point, polygon, end_of_load, move, inner, broken, decode, numbers}
+use Rattle.frame.specs.laws.Decoded.{polygon-count, polygon_few, polygon-listed, polygon_ring, inner-count, inner_few, inner-listed, inner_ring}
 use Rattle.frame.specs.held.Meaning.{meaning}
 use Rattle.frame.specs.declared.Fields.TheVariants.{Polygon, Inner}
 use Rattle.frame.specs.declared.Fields.{Fields}
@@ -45,7 +45,7 @@ add-polygon-requires c κs =
     let g = s.args in
     let w : Arrays = arrays g.points.now g.entries.now g.starts.now g.firsts.now g.stamps.now g.findings.now g.parts.now g.table.now g.turned.now in
     let e : meaning (Polygon c.before.before.before.before.before.f3.given.0.0) g.line.now ≡ decode g.line.now = sym (ap (λ (q : Fields). meaning q g.line.now) c.before.before.before.before.before.f3.given.1) ∙ c.before.before.before.before.before.before.before.decode.ensures in
-    (s.requires.0.0, (record { count = polygon-count g.line.now _ e; few = polygon-few g.line.now _ e; listed = polygon-listed g.line.now _ e }, (s.requires.1.loaded.entered.size, ends_of w g.d s.requires.1 s.requires.0.1)))
+    (s.requires.0.0, (record { count = polygon-count g.line.now _ e; few = polygon_few g.line.now _ e; listed = polygon-listed g.line.now _ e }, (s.requires.1.loaded.entered.size, ends_of w g.d s.requires.1 s.requires.0.1)))
 
 enum_told : tie.Need-enum-told
 enum_told c = search rules
@@ -89,7 +89,7 @@ add-inner-requires c κs =
     let g = s.args in
     let w : Arrays = arrays g.points.now g.entries.now g.starts.now g.firsts.now g.stamps.now g.findings.now g.parts.now g.table.now g.turned.now in
     let e : meaning (Inner c.before.before.before.before.before.f7.given.0.0) g.line.now ≡ decode g.line.now = sym (ap (λ (q : Fields). meaning q g.line.now) c.before.before.before.before.before.f7.given.1) ∙ c.before.before.before.before.before.before.before.decode.ensures in
-    (s.requires.0.0, (record { count = inner-count g.line.now _ e; few = inner-few g.line.now _ e; listed = inner-listed g.line.now _ e }, (s.requires.1.loaded.entered.size, ends_of w g.d s.requires.1 s.requires.0.1)))
+    (s.requires.0.0, (record { count = inner-count g.line.now _ e; few = inner_few g.line.now _ e; listed = inner-listed g.line.now _ e }, (s.requires.1.loaded.entered.size, ends_of w g.d s.requires.1 s.requires.0.1)))
 
 enum-known-f-8 : tie.Need-enum-known-f-8
 enum-known-f-8 c = search rules
@@ -98,7 +98,7 @@ ask-requires-2 : tie.Need-ask-requires-2
 ask-requires-2 c κs =
     let s = c.before.before.before.before.before.before.before.before in
     let g = s.args in
-    (s.requires.0.0, valid-sorted (arrays g.points.now g.entries.now g.starts.now g.firsts.now g.stamps.now g.findings.now g.parts.now g.table.now g.turned.now) g.d s.requires.1)
+    (s.requires.0.0, valid_sorted (arrays g.points.now g.entries.now g.starts.now g.firsts.now g.stamps.now g.findings.now g.parts.now g.table.now g.turned.now) g.d s.requires.1)
 
 enum-told-2 : tie.Need-enum-told-2
 enum-told-2 c = search rules
@@ -115,7 +115,7 @@ returns c =
     let g = c.before.before.before.before.before.before.before.before.before.before.before.args in
     let v = c.before.before.before.before.before.before.before.before.before.before.before.requires.1 in
     let w : Arrays = arrays g.points.now g.entries.now g.starts.now g.firsts.now g.stamps.now g.findings.now g.parts.now g.table.now g.turned.now in
-    did-step (service w g.d) g.line.now (begin c.before.before.before.before.before.before.f.given.0.0) g.room.now _ g.d.at _ _ (sym (ap (λ (q : Fields). meaning q g.line.now) c.before.before.before.before.before.before.f.given.1) ∙ c.before.before.before.before.before.before.before.before.decode.ensures) (c.before.before.begin.ensures w refl v)
+    did_step (service w g.d) g.line.now (begin c.before.before.before.before.before.before.f.given.0.0) g.room.now _ g.d.at _ _ (sym (ap (λ (q : Fields). meaning q g.line.now) c.before.before.before.before.before.before.f.given.1) ∙ c.before.before.before.before.before.before.before.before.decode.ensures) (c.before.before.begin.ensures w refl v)
 
 same-length-2 : tie.Need-same-length-2
 same-length-2 c = search rules
@@ -126,7 +126,7 @@ returns-2 c =
     let g = c.before.before.before.before.before.before.before.before.before.before.before.before.args in
     let v = c.before.before.before.before.before.before.before.before.before.before.before.before.requires.1 in
     let w : Arrays = arrays g.points.now g.entries.now g.starts.now g.firsts.now g.stamps.now g.findings.now g.parts.now g.table.now g.turned.now in
-    did-step (service w g.d) g.line.now _ g.room.now _ g.d.at _ _
+    did_step (service w g.d) g.line.now _ g.room.now _ g.d.at _ _
     ((λ i. point (to_z-of_z {w = w64} {z = c.before.before.before.before.before.before.before.f2.given.0.0} (record { sfits = c.before.before.before.before.before.before.known-told2.given.0.1 }) i) (to_z-of_z {w = w64} {z = c.before.before.before.before.before.before.before.f2.given.0.1.0} (record { sfits = c.before.before.before.before.before.before.known-told2.given.1.0.1 }) i) (to_z-of_z {w = w64} {z = c.before.before.before.before.before.before.before.f2.given.0.1.1.0} (record { sfits = c.before.before.before.before.before.before.known-told2.given.1.1.0.1 }) i)) ∙ sym (ap (λ (q : Fields). meaning q g.line.now) c.before.before.before.before.before.before.before.f2.given.1) ∙ c.before.before.before.before.before.before.before.before.before.decode.ensures)
     (c.before.before.add-point.ensures w refl refl v)
 
@@ -139,7 +139,7 @@ returns-3 c =
     let v = c.before.before.before.before.before.before.before.before.before.before.before.before.before.requires.1 in
     let w : Arrays = arrays g.points.now g.entries.now g.starts.now g.firsts.now g.stamps.now g.findings.now g.parts.now g.table.now g.turned.now in
     let e : meaning (Polygon c.before.before.before.before.before.before.before.before.f3.given.0.0) g.line.now ≡ decode g.line.now = sym (ap (λ (q : Fields). meaning q g.line.now) c.before.before.before.before.before.before.before.before.f3.given.1) ∙ c.before.before.before.before.before.before.before.before.before.before.decode.ensures in
-    did-step (service w g.d) g.line.now (polygon (numbers (drop 2 g.line.now))) g.room.now _ g.d.at _ _ (sym (polygon-ring g.line.now _ e)) (c.before.before.add-polygon.ensures w refl refl refl v)
+    did_step (service w g.d) g.line.now (polygon (numbers (drop 2 g.line.now))) g.room.now _ g.d.at _ _ (sym (polygon_ring g.line.now _ e)) (c.before.before.add-polygon.ensures w refl refl refl v)
 
 same-length-4 : tie.Need-same-length-4
 same-length-4 c = search rules
@@ -150,7 +150,7 @@ returns-4 c =
     let g = c.before.before.before.before.before.before.before.before.before.before.before.before.before.before.before.before.before.before.args in
     let v = c.before.before.before.before.before.before.before.before.before.before.before.before.before.before.before.before.before.before.requires.1 in
     let w : Arrays = arrays g.points.now g.entries.now g.starts.now g.firsts.now g.stamps.now g.findings.now g.parts.now g.table.now g.turned.now in
-    did-step (service w g.d) g.line.now end-of-load g.room.now _ g.d.at _ _ (sym (ap (λ (q : Fields). meaning q g.line.now) c.before.before.before.before.before.before.before.before.before.before.before.before.before.enum_told.given.1) ∙ c.before.before.before.before.before.before.before.before.before.before.before.before.before.before.before.decode.ensures) c.before.before.end-load.ensures
+    did_step (service w g.d) g.line.now end_of_load g.room.now _ g.d.at _ _ (sym (ap (λ (q : Fields). meaning q g.line.now) c.before.before.before.before.before.before.before.before.before.before.before.before.before.enum_told.given.1) ∙ c.before.before.before.before.before.before.before.before.before.before.before.before.before.before.before.decode.ensures) c.before.before.end-load.ensures
 
 same-length-5 : tie.Need-same-length-5
 same-length-5 c = search rules
@@ -161,7 +161,7 @@ returns-5 c =
     let g = c.before.before.before.before.before.before.before.before.before.before.before.before.before.before.before.before.before.before.before.args in
     let v = c.before.before.before.before.before.before.before.before.before.before.before.before.before.before.before.before.before.before.before.requires.1 in
     let w : Arrays = arrays g.points.now g.entries.now g.starts.now g.firsts.now g.stamps.now g.findings.now g.parts.now g.table.now g.turned.now in
-    did-step (service w g.d) g.line.now _ g.room.now _ g.d.at _ _
+    did_step (service w g.d) g.line.now _ g.room.now _ g.d.at _ _
     ((λ i. move c.before.before.before.before.before.before.before.before.before.before.before.before.before.before.f4.given.0.0 c.before.before.before.before.before.before.before.before.before.before.before.before.before.before.f4.given.0.1.0 (to_z-of_z {w = w64} {z = c.before.before.before.before.before.before.before.before.before.before.before.before.before.before.f4.given.0.1.1.0} (record { sfits = c.before.before.before.before.before.before.before.before.before.before.before.before.before.known-told4.given.1.1.0.1 }) i) (to_z-of_z {w = w64} {z = c.before.before.before.before.before.before.before.before.before.before.before.before.before.before.f4.given.0.1.1.1.0} (record { sfits = c.before.before.before.before.before.before.before.before.before.before.before.before.before.known-told4.given.1.1.1.0.1 }) i) (to_z-of_z {w = w64} {z = c.before.before.before.before.before.before.before.before.before.before.before.before.before.before.f4.given.0.1.1.1.1.0} (record { sfits = c.before.before.before.before.before.before.before.before.before.before.before.before.before.known-told4.given.1.1.1.1.0.1 }) i)) ∙ sym (ap (λ (q : Fields). meaning q g.line.now) c.before.before.before.before.before.before.before.before.before.before.before.before.before.before.f4.given.1) ∙ c.before.before.before.before.before.before.before.before.before.before.before.before.before.before.before.before.decode.ensures)
     c.before.before.move-point.ensures
 
@@ -174,7 +174,7 @@ returns-6 c =
     let g = c.before.before.before.before.before.before.before.before.before.before.before.before.before.before.before.before.before.before.before.args in
     let v = c.before.before.before.before.before.before.before.before.before.before.before.before.before.before.before.before.before.before.before.requires.1 in
     let w : Arrays = arrays g.points.now g.entries.now g.starts.now g.firsts.now g.stamps.now g.findings.now g.parts.now g.table.now g.turned.now in
-    did-step (service w g.d) g.line.now _ g.room.now _ g.d.at _ _ (sym (ap (λ (q : Fields). meaning q g.line.now) c.before.before.before.before.before.before.before.before.before.before.before.before.before.before.f5.given.1) ∙ c.before.before.before.before.before.before.before.before.before.before.before.before.before.before.before.before.decode.ensures) c.before.before.turn-polygon.ensures
+    did_step (service w g.d) g.line.now _ g.room.now _ g.d.at _ _ (sym (ap (λ (q : Fields). meaning q g.line.now) c.before.before.before.before.before.before.before.before.before.before.before.before.before.before.f5.given.1) ∙ c.before.before.before.before.before.before.before.before.before.before.before.before.before.before.before.before.decode.ensures) c.before.before.turn-polygon.ensures
 
 same-length-7 : tie.Need-same-length-7
 same-length-7 c = search rules
@@ -185,7 +185,7 @@ returns-7 c =
     let g = c.before.before.before.before.before.before.before.before.before.before.before.before.before.args in
     let v = c.before.before.before.before.before.before.before.before.before.before.before.before.before.requires.1 in
     let w : Arrays = arrays g.points.now g.entries.now g.starts.now g.firsts.now g.stamps.now g.findings.now g.parts.now g.table.now g.turned.now in
-    did-step (service w g.d) g.line.now _ g.room.now _ g.d.at _ _ (sym (ap (λ (q : Fields). meaning q g.line.now) c.before.before.before.before.before.before.before.before.f6.given.1) ∙ c.before.before.before.before.before.before.before.before.before.before.decode.ensures) (c.before.before.ask.ensures w refl refl refl v)
+    did_step (service w g.d) g.line.now _ g.room.now _ g.d.at _ _ (sym (ap (λ (q : Fields). meaning q g.line.now) c.before.before.before.before.before.before.before.before.f6.given.1) ∙ c.before.before.before.before.before.before.before.before.before.before.decode.ensures) (c.before.before.ask.ensures w refl refl refl v)
 
 same-length-8 : tie.Need-same-length-8
 same-length-8 c = search rules
@@ -196,7 +196,7 @@ returns-8 c =
     let v = c.before.before.before.before.before.before.before.before.before.before.before.before.before.requires.1 in
     let w : Arrays = arrays g.points.now g.entries.now g.starts.now g.firsts.now g.stamps.now g.findings.now g.parts.now g.table.now g.turned.now in
     let e : meaning (Inner c.before.before.before.before.before.before.before.before.f7.given.0.0) g.line.now ≡ decode g.line.now = sym (ap (λ (q : Fields). meaning q g.line.now) c.before.before.before.before.before.before.before.before.f7.given.1) ∙ c.before.before.before.before.before.before.before.before.before.before.decode.ensures in
-    did-step (service w g.d) g.line.now (inner (numbers (drop 2 g.line.now))) g.room.now _ g.d.at _ _ (sym (inner-ring g.line.now _ e)) (c.before.before.add-inner.ensures w refl refl refl v)
+    did_step (service w g.d) g.line.now (inner (numbers (drop 2 g.line.now))) g.room.now _ g.d.at _ _ (sym (inner_ring g.line.now _ e)) (c.before.before.add-inner.ensures w refl refl refl v)
 
 same-length-9 : tie.Need-same-length-9
 same-length-9 c = search rules
@@ -207,19 +207,19 @@ returns-9 c =
     let g = c.before.before.before.before.before.before.before.before.before.before.before.args in
     let v = c.before.before.before.before.before.before.before.before.before.before.before.requires.1 in
     let w : Arrays = arrays g.points.now g.entries.now g.starts.now g.firsts.now g.stamps.now g.findings.now g.parts.now g.table.now g.turned.now in
-    did-step (service w g.d) g.line.now _ g.room.now _ g.d.at _ _ (sym (ap (λ (q : Fields). meaning q g.line.now) c.before.before.before.before.before.before.f8.given.1) ∙ c.before.before.before.before.before.before.before.before.decode.ensures) (c.before.before.ask2.ensures w refl v)
+    did_step (service w g.d) g.line.now _ g.room.now _ g.d.at _ _ (sym (ap (λ (q : Fields). meaning q g.line.now) c.before.before.before.before.before.before.f8.given.1) ∙ c.before.before.before.before.before.before.before.before.decode.ensures) (c.before.before.ask2.ensures w refl v)
 
 same-length-10 : tie.Need-same-length-10
 same-length-10 c = search rules
 
 returns-10 : tie.Need-returns-10
-unfolding meaning isAccepted
+unfolding meaning is_accepted_of
 returns-10 c =
     let g = c.before.before.before.before.before.before.before.before.before.args in
     let v = c.before.before.before.before.before.before.before.before.before.requires.1 in
     let w : Arrays = arrays g.points.now g.entries.now g.starts.now g.firsts.now g.stamps.now g.findings.now g.parts.now g.table.now g.turned.now in
-    did-step (service w g.d) g.line.now broken g.room.now _ g.d.at _ _ (sym (ap (λ (q : Fields). meaning q g.line.now) c.before.before.before.before.enum-told2.given.1) ∙ c.before.before.before.before.before.before.decode.ensures)
-    (did-refused w g.d v broken Malformed g.room.now _ _ (sym (of-broken (service w g.d))) refl (c.before.before.refuse.ensures w v))
+    did_step (service w g.d) g.line.now broken g.room.now _ g.d.at _ _ (sym (ap (λ (q : Fields). meaning q g.line.now) c.before.before.before.before.enum-told2.given.1) ∙ c.before.before.before.before.before.before.decode.ensures)
+    (did_refused w g.d v broken Malformed g.room.now _ _ (sym (of_broken (service w g.d))) refl (c.before.before.refuse.ensures w v))
 
 pub one_spec : {M : Type 1} → statement M
 one_spec =

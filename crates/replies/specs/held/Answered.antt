@@ -7,8 +7,8 @@ use Rattle.modes.specs.declared.Mode.TheVariants.{Nothing}
 use Rattle.desk.specs.declared.Desk.{Desk}
 
 -- "no load running and no building held"
-abbrev pub idleDesk : Desk
-idleDesk = record { mode = Nothing; held = record { tolerance = 0; points = 0; polygons = 0; last = 0; edges = 0; fixed = Whole; shape = Whole }; at = 0 }
+abbrev pub idle_desk : Desk
+idle_desk = record { mode = Nothing; held = record { tolerance = 0; points = 0; polygons = 0; last = 0; edges = 0; fixed = Whole; shape = Whole }; at = 0 }
 
 -- the answers to a stream stand at the front of the room, and all else is as it was
 pub record Answered (stream room room' : List ℕ) (r : ℕ) : Type 0 where

@@ -8,18 +8,18 @@ use Rattle.std.proofs.lemmas.List.Edits.{sets}
 use Rattle.std.proofs.Math.Seq.{length-sets}
 use Rattle.whole.specs.held.Small.{Small}
 use Rattle.whole.specs.laws.Places.{all_alike}
-use Rattle.whole.specs.laws.Size.{small-zero}
-use Rattle.whole.specs.laws.Stores.{sets-append}
+use Rattle.whole.specs.laws.Size.{small_zero}
+use Rattle.whole.specs.laws.Stores.{sets_append}
 use Rattle.lines.specs.Lines.{lines, ended}
-use Rattle.lines.specs.held.Offsets.{lineEnd}
-use Rattle.lines.specs.laws.LineLaws.{end-inside, line-cut, lines-done}
+use Rattle.lines.specs.held.Offsets.{line_end_of}
+use Rattle.lines.specs.laws.LineLaws.{end_inside, line-cut, lines_done}
 use Rattle.frame.specs.Frame.{Frame, decode}
 use Rattle.space.specs.held.Points.{Coords}
 use Rattle.shell.specs.declared.Shape.TheVariants.{Whole}
-use Rattle.taken.specs.laws.Chains.{chained-fresh}
+use Rattle.taken.specs.laws.Chains.{chained_fresh}
 use Rattle.building.specs.held.Holds.{Arrays, Sizes}
 use Rattle.building.specs.laws.Load.{loaded-begun}
-use Rattle.ring.specs.Polygon.{allRings}
+use Rattle.ring.specs.Polygon.{all_rings}
 use Rattle.building.specs.Tables.{begun}
 use Rattle.service.specs.Service.{State, tables_of, step}
 use Rattle.service.specs.Stream.{run, answers}
@@ -29,19 +29,19 @@ use Rattle.desk.specs.declared.Desk.{Desk}
 use Rattle.modes.specs.declared.Mode.TheVariants.{Nothing, Loading, Holding}
 use Rattle.modes.specs.held.Mode.{loads, holds}
 use Rattle.desk.specs.held.Holds.{state_of, service, Valid, Did, does}
-use Rattle.replies.specs.held.Answered.{idleDesk, Answered}
+use Rattle.replies.specs.held.Answered.{idle_desk, Answered}
 
 -- ---- one line
 
-pub did-step : (st : State) (l : List ℕ) (f : Frame) (room room' : List ℕ) (at : ℕ) (a : Arrays) (d : Desk) → f ≡ decode l → Did (does st f) room at a room' d → Did (step st l) room at a room' d
+pub did_step : (st : State) (l : List ℕ) (f : Frame) (room room' : List ℕ) (at : ℕ) (a : Arrays) (d : Desk) → f ≡ decode l → Did (does st f) room at a room' d → Did (step st l) room at a room' d
 unfolding step
-did-step st l f room room' at a d e h = subst (λ (g : Frame). Did (does st g) room at a room' d) e h
+did_step st l f room room' at a d e h = subst (λ (g : Frame). Did (does st g) room at a room' d) e h
 
 -- ---- the loop
 
 -- how many rings are held
-abbrev ringsHeld : State → ℕ
-ringsHeld st = length (allRings (tables_of st).polygons)
+abbrev rings_held : State → ℕ
+rings_held st = length (all_rings (tables_of st).polygons)
 
 -- the loop over the lines: what is still to be written gives the whole, and each ring has had a line
 pub record Running (stream room₀ room : List ℕ) (a : Arrays) (d : Desk) (from : ℕ) : Type 0 where
@@ -49,32 +49,32 @@ pub record Running (stream room₀ room : List ℕ) (a : Arrays) (d : Desk) (fro
   pub inside : from ≤ length stream + 1
   pub same : length room ≡ length room₀
   pub space : d.at + 33 * length (lines (drop from stream)) ≤ length room₀
-  pub fewer : ringsHeld (service a d) + length (lines (drop from stream)) ≤ 1024
+  pub fewer : rings_held (service a d) + length (lines (drop from stream)) ≤ 1024
   pub rest : sets room d.at (run (service a d) (lines (drop from stream))) ≡ sets room₀ 0 (answers stream)
   pub count : d.at + length (run (service a d) (lines (drop from stream))) ≡ length (answers stream)
 
-running-start : (stream room : List ℕ) (a : Arrays) → Valid a idleDesk → length (lines stream) ≤ 1024 → 33 * length (lines stream) ≤ length room → Running stream room room a idleDesk 0
-unfolding service state_of answers tables_of begun allRings
-running-start stream room a v n h = record { valid = v; inside = omega arith; same = refl; space = omega arith; fewer = omega arith; rest = refl; count = omega arith }
+running_start : (stream room : List ℕ) (a : Arrays) → Valid a idle_desk → length (lines stream) ≤ 1024 → 33 * length (lines stream) ≤ length room → Running stream room room a idle_desk 0
+unfolding service state_of answers tables_of begun all_rings
+running_start stream room a v n h = record { valid = v; inside = omega arith; same = refl; space = omega arith; fewer = omega arith; rest = refl; count = omega arith }
 
 -- the same, where a call tells the desk
-pub running-idle : (stream room : List ℕ) (a : Arrays) (d : Desk) → d ≡ idleDesk → Valid a idleDesk → length (lines stream) ≤ 1024 → 33 * length (lines stream) ≤ length room → Running stream room room a d 0
-running-idle stream room a d e v n h = subst (λ (q : Desk). Running stream room room a q 0) (sym e) (running-start stream room a v n h)
+pub running_idle : (stream room : List ℕ) (a : Arrays) (d : Desk) → d ≡ idle_desk → Valid a idle_desk → length (lines stream) ≤ 1024 → 33 * length (lines stream) ≤ length room → Running stream room room a d 0
+running_idle stream room a d e v n h = subst (λ (q : Desk). Running stream room room a q 0) (sym e) (running_start stream room a v n h)
 
 module _ (stream room₀ room : List ℕ) (a : Arrays) (d : Desk) (from : ℕ) (r : Running stream room₀ room a d from) (h : from < length stream) where
   abbrev line : List ℕ
-  line = take (lineEnd stream from - from) (drop from stream)
+  line = take (line_end_of stream from - from) (drop from stream)
 
   abbrev later : List (List ℕ)
-  later = lines (drop (lineEnd stream from + 1) stream)
+  later = lines (drop (line_end_of stream from + 1) stream)
 
-  pub room-left : d.at + 33 ≤ length room
-  room-left =
+  pub room_left : d.at + 33 ≤ length room
+  room_left =
       let k : length (lines (drop from stream)) ≡ suc (length later) = ap length (line-cut stream from h) in
       omega (arith, r.space, r.same)
 
   -- there is room for a ring more
-  pub rings-left : ringsHeld (service a d) < 1024
+  pub rings-left : rings_held (service a d) < 1024
   rings-left =
       let k : length (lines (drop from stream)) ≡ suc (length later) = ap length (line-cut stream from h) in
       omega (arith, r.fewer)
@@ -89,12 +89,12 @@ module _ (stream room₀ room : List ℕ) (a : Arrays) (d : Desk) (from : ℕ) (
         ap (run (service a d)) (line-cut stream from h)
         ∙ ap (λ (st : State). answer ++ run st later) (sym did.next)
 
-    turned : Running stream room₀ room' a' d' (lineEnd stream from + 1)
+    turned : Running stream room₀ room' a' d' (line_end_of stream from + 1)
     turned =
         let k : length (lines (drop from stream)) ≡ suc (length later) = ap length (line-cut stream from h) in
         let s : length answer ≤ 33 = step-short (service a d) line in
-        let e : lineEnd stream from ≤ length stream = end-inside stream from (omega arith) in
-        let g : ringsHeld (service a' d') ≤ ringsHeld (service a d) + 1 = subst (λ (st : State). ringsHeld st ≤ ringsHeld (service a d) + 1) (sym did.next) (rings-step (service a d) line) in
+        let e : line_end_of stream from ≤ length stream = end_inside stream from (omega arith) in
+        let g : rings_held (service a' d') ≤ rings_held (service a d) + 1 = subst (λ (st : State). rings_held st ≤ rings_held (service a d) + 1) (sym did.next) (rings-step (service a d) line) in
         let n : length (answer ++ run (service a' d') later) ≡ length answer + length (run (service a' d') later) = length-append answer (run (service a' d') later) in
         let m : length (run (service a d) (lines (drop from stream))) ≡ length (answer ++ run (service a' d') later) = ap length run_on in
         record {
@@ -105,23 +105,23 @@ module _ (stream room₀ room : List ℕ) (a : Arrays) (d : Desk) (from : ℕ) (
           fewer = omega (arith, r.fewer);
           rest =
               ap₂ (λ (q : List ℕ) (i : ℕ). sets q i (run (service a' d') later)) did.wrote did.past
-              ∙ sets-append answer (run (service a' d') later) room d.at
+              ∙ sets_append answer (run (service a' d') later) room d.at
               ∙ ap (sets room d.at) (sym run_on)
               ∙ r.rest;
           count = omega (arith, r.count, did.past);
         }
 
 -- the same, where the line's end is told by a call
-pub running-turn : (stream room₀ room : List ℕ) (a : Arrays) (d : Desk) (from : ℕ) → Running stream room₀ room a d from → from < length stream → (end : ℕ) → end ≡ lineEnd stream from
+pub running_turn : (stream room₀ room : List ℕ) (a : Arrays) (d : Desk) (from : ℕ) → Running stream room₀ room a d from → from < length stream → (end : ℕ) → end ≡ line_end_of stream from
     → (a' : Arrays) (d' : Desk) (room' : List ℕ) → Did (step (service a d) (take (end - from) (drop from stream))) room d.at a' room' d' → Running stream room₀ room' a' d' (end + 1)
-running-turn stream room₀ room a d from r h end e a' d' room' did =
+running_turn stream room₀ room a d from r h end e a' d' room' did =
     subst (λ (n : ℕ). Running stream room₀ room' a' d' (n + 1)) (sym e)
     (turned stream room₀ room a d from r h a' d' room' (subst (λ (n : ℕ). Did (step (service a d) (take (n - from) (drop from stream))) room d.at a' room' d') e did))
 
-pub running-end : (stream room₀ room : List ℕ) (a : Arrays) (d : Desk) (from : ℕ) → Running stream room₀ room a d from → length stream ≤ from → Answered stream room₀ room d.at
+pub running_end : (stream room₀ room : List ℕ) (a : Arrays) (d : Desk) (from : ℕ) → Running stream room₀ room a d from → length stream ≤ from → Answered stream room₀ room d.at
 unfolding run
-running-end stream room₀ room a d from r h =
-    let e : run (service a d) (lines (drop from stream)) ≡ [] = ap (run (service a d)) (lines-done stream from h) in
+running_end stream room₀ room a d from r h =
+    let e : run (service a d) (lines (drop from stream)) ≡ [] = ap (run (service a d)) (lines_done stream from h) in
     record {
       bytes = sym (ap (sets room d.at) e) ∙ r.rest;
       count = let n : length (run (service a d) (lines (drop from stream))) ≡ 0 = ap length e in omega (arith, r.count);
@@ -129,14 +129,14 @@ running-end stream room₀ room a d from r h =
 
 -- ---- the arrays as they are made
 
-pub valid-idle : (a : Arrays) → Coords a.points → length a.entries ≡ 1024 → length a.starts ≡ 1025 → get_or a.starts 0 0 ≡ 0 → length a.firsts ≡ 257 → get_or a.firsts 0 0 ≡ 0 → Sizes a → ((b : ℕ) → get_or a.table b 0 ≡ 0) → Valid a idleDesk
-valid-idle a c e s z g y k f =
+pub valid_idle : (a : Arrays) → Coords a.points → length a.entries ≡ 1024 → length a.starts ≡ 1025 → get_or a.starts 0 0 ≡ 0 → length a.firsts ≡ 257 → get_or a.firsts 0 0 ≡ 0 → Sizes a → ((b : ℕ) → get_or a.table b 0 ≡ 0) → Valid a idle_desk
+valid_idle a c e s z g y k f =
     record {
       loaded = loaded-begun a.points a.entries a.starts a.firsts 0 0 0 Whole Whole c e s g z y (omega arith);
       sizes = k;
       kept = λ q. absurd (nothing-held q);
       chained = λ q. absurd (nothing-loads q);
-      fresh = λ q. chained-fresh a.points a.table k.table f;
+      fresh = λ q. chained_fresh a.points a.table k.table f;
     }
   where
     nothing-held : Nothing ≡ Holding → ⊥
@@ -147,5 +147,5 @@ valid-idle a c e s z g y k f =
 
 -- ---- arrays of nothing but zeros
 
-pub fresh-coords : (n : ℕ) → n ≡ 1536 → Coords (replicate n (pos 0))
-fresh-coords n e = record { room = length-replicate {A = ℤ} n (pos 0) ∙ e; small = λ i. subst (λ (z : ℤ). Small 100000 z) (sym (all_alike (pos 0) n i)) small-zero }
+pub fresh_coords : (n : ℕ) → n ≡ 1536 → Coords (replicate n (pos 0))
+fresh_coords n e = record { room = length-replicate {A = ℤ} n (pos 0) ∙ e; small = λ i. subst (λ (z : ℤ). Small 100000 z) (sym (all_alike (pos 0) n i)) small_zero }

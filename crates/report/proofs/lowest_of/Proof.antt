@@ -2,7 +2,7 @@
 use Prim.Native.Nat.{◌-◌}
 use native.Mathlib.Omega.{arith}
 use borrow.Author.Rules.{rules}
-use Rattle.totals.specs.laws.Scans.{Searched, searched-none, searched-more, searched-found, searched-done}
+use Rattle.totals.specs.laws.Scans.{Searched, searched_none, searched-more, searched-found, searched_done}
 use Rattle.report.proofs.lowest_of.Statement.{statement}
 use Rattle.report.proofs.lowest_of.Tie as tie
 
@@ -13,7 +13,7 @@ abbrev decreases-loop : tie.decreases-loop
 decreases-loop findings n i₀ i = n - i
 
 loop-holds : tie.Need-loop-init invariant-loop decreases-loop
-loop-holds c = searched-none c.args.findings.now c.args.n (omega arith)
+loop-holds c = searched_none c.args.findings.now c.args.n (omega arith)
 
 mul-if1 : tie.Need-overflow-mul-if1 invariant-loop decreases-loop
 mul-if1 c = search rules
@@ -43,7 +43,7 @@ returns-2 : tie.Need-returns-2 invariant-loop decreases-loop
 returns-2 c =
     let s = c.before.before in
     let lp = c.before.loop in
-    searched-done s.args.findings.now s.args.n (omega arith) lp.i lp.invariant c.loop-test.false
+    searched_done s.args.findings.now s.args.n (omega arith) lp.i lp.invariant c.loop-test.false
 
 pub lowest-of-spec : {M : Type 1} → statement M
 lowest-of-spec =

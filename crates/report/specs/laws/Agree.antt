@@ -5,5 +5,5 @@ use Rattle.building.specs.declared.Verdict.{Verdict}
 use Rattle.building.specs.Tables.{Tables}
 use Rattle.building.specs.Report.{verdict}
 
-pub verdict-of-agrees : (t : Tables) (r₁ r₂ : Verdict) → r₁ ≡ verdict t → r₂ ≡ verdict t → r₁ ≡ r₂
-verdict-of-agrees t r₁ r₂ = agree
+pub verdict_of_agrees : (t : Tables) (r₁ r₂ : Verdict) → r₁ ≡ verdict t → r₂ ≡ verdict t → r₁ ≡ r₂
+verdict_of_agrees t r₁ r₂ = agree

@@ -8,73 +8,73 @@ use mathlib.Core.List.{List, [], ◌∷◌, map}
 use Rattle.std.proofs.Math.Option.{Option, none, some}
 use Rattle.std.proofs.Math.ListN.{length, get_or, length-map}
 use Rattle.std.specs.Int.Signed.{le_z}
-use Rattle.whole.specs.Lists.{given, first, firstGiven, tally, numberedFrom, numbered, sum_of, tab}
+use Rattle.whole.specs.Lists.{given, first, first_given, tally, numbered_from, numbered, sum_of, tab}
 use Rattle.whole.specs.held.Small.{Small}
-use Rattle.whole.specs.laws.Size.{small-zero, small-add, small-more}
+use Rattle.whole.specs.laws.Size.{small_zero, small_add, small_more}
 use Rattle.polygon.specs.declared.Finding.{Finding}
 use Rattle.polygon.specs.declared.Finding.TheVariants.{Sound}
 use Rattle.inner.specs.Finding.{finding, part}
 use Rattle.inner.specs.laws.Kept.{finding-take, part-take}
 use Rattle.inner.specs.laws.Tables.{part-of-small}
 use Rattle.ring.specs.Polygon.{one}
-use Rattle.ring.specs.laws.Owners.{firsts-ordered}
+use Rattle.ring.specs.laws.Owners.{firsts_ordered}
 use Rattle.space.specs.held.Points.{points_of}
 use Rattle.shell.specs.declared.Shape.{Shape}
-use Rattle.ring.specs.held.Rings.{polygonAt, polygons}
-use Rattle.shell.specs.Shell.{shape, shapeNumber}
+use Rattle.ring.specs.held.Rings.{polygon_at, polygons}
+use Rattle.shell.specs.Shell.{shape, shape_number_of}
 use Rattle.shell.specs.held.Kept.{Edged}
-use Rattle.directions.specs.laws.Now.{now-is}
+use Rattle.directions.specs.laws.Now.{now_is}
 use Rattle.building.specs.declared.Scalars.{Scalars}
 use Rattle.building.specs.declared.Verdict.{Verdict}
 use Rattle.building.specs.declared.Verdict.TheVariants.{Accepted, Faulty, Unsound, Inward}
 use Rattle.building.specs.Tables.{Tables}
-use Rattle.building.specs.Report.{findings, isFault, lowestFault, sixVolume, shapeFault, verdict, report}
+use Rattle.building.specs.Report.{findings, is_fault, lowest_fault, six_volume_of, shape_fault, verdict, report}
 use Rattle.edges.specs.laws.Tallies.{tally-map}
 use Rattle.whole.specs.laws.Places.{tab-length, tab-at}
-use Rattle.building.specs.laws.Lists.{tab-ext, take-is-tab, map-tab}
-use Rattle.building.specs.laws.Findings.{kept-is, kept-fault}
-use Rattle.polygon.specs.held.Findings.{keptFinding, findingOf}
-use Rattle.building.specs.held.Holds.{Arrays, heldTables, heldBuilding, Loaded, Found, Summed, Broken, Kept}
-use Rattle.building.specs.laws.Rings.{stands_of, polygon-below}
-use Rattle.building.specs.laws.Unmendable.{unmendable-fault}
-use Rattle.totals.specs.held.Scans.{lowest, sumUpTo, Summable}
-use Rattle.totals.specs.laws.Scans.{lowest-is-length, lowest-inside, above, sum_more}
+use Rattle.building.specs.laws.Lists.{tab_ext, take_is_tab, map-tab}
+use Rattle.building.specs.laws.Findings.{kept_is, kept_fault}
+use Rattle.polygon.specs.held.Findings.{kept_finding, finding_of}
+use Rattle.building.specs.held.Holds.{Arrays, held_tables, held_building, Loaded, Found, Summed, Broken, Kept}
+use Rattle.building.specs.laws.Rings.{stands_of, polygon_below}
+use Rattle.building.specs.laws.Unmendable.{unmendable_fault}
+use Rattle.totals.specs.held.Scans.{lowest, sum_up_to, Summable}
+use Rattle.totals.specs.laws.Scans.{lowest_is_length, lowest-inside, above, sum_more}
 
 -- ---- the lowest finding, as it is kept
-lowest-some : (k : ℕ) (fs : List Finding) → lowest (map keptFinding fs) < length fs
-    → firstGiven (map (λ (f : ℕ × Finding). given (isFault f.1) (Faulty f.0 f.1)) (numberedFrom k fs)) ≡ some (Faulty (k + lowest (map keptFinding fs)) (get_or fs (lowest (map keptFinding fs)) Sound))
-unfolding lowest firstGiven given numberedFrom
+lowest-some : (k : ℕ) (fs : List Finding) → lowest (map kept_finding fs) < length fs
+    → first_given (map (λ (f : ℕ × Finding). given (is_fault f.1) (Faulty f.0 f.1)) (numbered_from k fs)) ≡ some (Faulty (k + lowest (map kept_finding fs)) (get_or fs (lowest (map kept_finding fs)) Sound))
+unfolding lowest first_given given numbered_from
 lowest-some k [] h = absurd (omega arith)
-lowest-some k (f ∷ fs) h = go (ltb 0 (keptFinding f)) refl h (lowest-some (suc k) fs)
+lowest-some k (f ∷ fs) h = go (ltb 0 (kept_finding f)) refl h (lowest-some (suc k) fs)
   where
-    go : (b : Bool) → ltb 0 (keptFinding f) ≡ b → lowest (map keptFinding (f ∷ fs)) < length (f ∷ fs)
-        → (lowest (map keptFinding fs) < length fs → firstGiven (map (λ (f : ℕ × Finding). given (isFault f.1) (Faulty f.0 f.1)) (numberedFrom (suc k) fs)) ≡ some (Faulty (suc k + lowest (map keptFinding fs)) (get_or fs (lowest (map keptFinding fs)) Sound)))
-        → firstGiven (map (λ (f : ℕ × Finding). given (isFault f.1) (Faulty f.0 f.1)) (numberedFrom k (f ∷ fs))) ≡ some (Faulty (k + lowest (map keptFinding (f ∷ fs))) (get_or (f ∷ fs) (lowest (map keptFinding (f ∷ fs))) Sound))
+    go : (b : Bool) → ltb 0 (kept_finding f) ≡ b → lowest (map kept_finding (f ∷ fs)) < length (f ∷ fs)
+        → (lowest (map kept_finding fs) < length fs → first_given (map (λ (f : ℕ × Finding). given (is_fault f.1) (Faulty f.0 f.1)) (numbered_from (suc k) fs)) ≡ some (Faulty (suc k + lowest (map kept_finding fs)) (get_or fs (lowest (map kept_finding fs)) Sound)))
+        → first_given (map (λ (f : ℕ × Finding). given (is_fault f.1) (Faulty f.0 f.1)) (numbered_from k (f ∷ fs))) ≡ some (Faulty (k + lowest (map kept_finding (f ∷ fs))) (get_or (f ∷ fs) (lowest (map kept_finding (f ∷ fs))) Sound))
     go true e h ih =
-        let l : lowest (map keptFinding (f ∷ fs)) ≡ 0 = ap (λ (b : Bool). elim b [ true ↦ 0 | false ↦ suc (lowest (map keptFinding fs)) ]) e in
+        let l : lowest (map kept_finding (f ∷ fs)) ≡ 0 = ap (λ (b : Bool). elim b [ true ↦ 0 | false ↦ suc (lowest (map kept_finding fs)) ]) e in
         let z : k + 0 ≡ k = omega arith in
-        rw (l, sym (kept-fault f) ∙ e, z)
+        rw (l, sym (kept_fault f) ∙ e, z)
     go false e h ih =
-        let l : lowest (map keptFinding (f ∷ fs)) ≡ suc (lowest (map keptFinding fs)) = ap (λ (b : Bool). elim b [ true ↦ 0 | false ↦ suc (lowest (map keptFinding fs)) ]) e in
-        let z : suc k + lowest (map keptFinding fs) ≡ k + suc (lowest (map keptFinding fs)) = omega arith in
+        let l : lowest (map kept_finding (f ∷ fs)) ≡ suc (lowest (map kept_finding fs)) = ap (λ (b : Bool). elim b [ true ↦ 0 | false ↦ suc (lowest (map kept_finding fs)) ]) e in
+        let z : suc k + lowest (map kept_finding fs) ≡ k + suc (lowest (map kept_finding fs)) = omega arith in
         let r = ih (omega arith) in
-        rw (l, sym (kept-fault f) ∙ e) (rw z at r)
+        rw (l, sym (kept_fault f) ∙ e) (rw z at r)
 
-lowest-none : (k : ℕ) (fs : List Finding) → length fs ≤ lowest (map keptFinding fs) → firstGiven (map (λ (f : ℕ × Finding). given (isFault f.1) (Faulty f.0 f.1)) (numberedFrom k fs)) ≡ none
-unfolding lowest firstGiven given numberedFrom
+lowest-none : (k : ℕ) (fs : List Finding) → length fs ≤ lowest (map kept_finding fs) → first_given (map (λ (f : ℕ × Finding). given (is_fault f.1) (Faulty f.0 f.1)) (numbered_from k fs)) ≡ none
+unfolding lowest first_given given numbered_from
 lowest-none k [] h = refl
-lowest-none k (f ∷ fs) h = go (ltb 0 (keptFinding f)) refl h (lowest-none (suc k) fs)
+lowest-none k (f ∷ fs) h = go (ltb 0 (kept_finding f)) refl h (lowest-none (suc k) fs)
   where
-    go : (b : Bool) → ltb 0 (keptFinding f) ≡ b → length (f ∷ fs) ≤ lowest (map keptFinding (f ∷ fs))
-        → (length fs ≤ lowest (map keptFinding fs) → firstGiven (map (λ (f : ℕ × Finding). given (isFault f.1) (Faulty f.0 f.1)) (numberedFrom (suc k) fs)) ≡ none)
-        → firstGiven (map (λ (f : ℕ × Finding). given (isFault f.1) (Faulty f.0 f.1)) (numberedFrom k (f ∷ fs))) ≡ none
+    go : (b : Bool) → ltb 0 (kept_finding f) ≡ b → length (f ∷ fs) ≤ lowest (map kept_finding (f ∷ fs))
+        → (length fs ≤ lowest (map kept_finding fs) → first_given (map (λ (f : ℕ × Finding). given (is_fault f.1) (Faulty f.0 f.1)) (numbered_from (suc k) fs)) ≡ none)
+        → first_given (map (λ (f : ℕ × Finding). given (is_fault f.1) (Faulty f.0 f.1)) (numbered_from k (f ∷ fs))) ≡ none
     go true e h ih =
-        let l : lowest (map keptFinding (f ∷ fs)) ≡ 0 = ap (λ (b : Bool). elim b [ true ↦ 0 | false ↦ suc (lowest (map keptFinding fs)) ]) e in
+        let l : lowest (map kept_finding (f ∷ fs)) ≡ 0 = ap (λ (b : Bool). elim b [ true ↦ 0 | false ↦ suc (lowest (map kept_finding fs)) ]) e in
         absurd (omega arith)
     go false e h ih =
-        let l : lowest (map keptFinding (f ∷ fs)) ≡ suc (lowest (map keptFinding fs)) = ap (λ (b : Bool). elim b [ true ↦ 0 | false ↦ suc (lowest (map keptFinding fs)) ]) e in
+        let l : lowest (map kept_finding (f ∷ fs)) ≡ suc (lowest (map kept_finding fs)) = ap (λ (b : Bool). elim b [ true ↦ 0 | false ↦ suc (lowest (map kept_finding fs)) ]) e in
         let r = ih (omega arith) in
-        rw (sym (kept-fault f) ∙ e) r
+        rw (sym (kept_fault f) ∙ e) r
 
 -- what stands before the lowest is 0
 pub lowest-before : (l : List ℕ) (p : ℕ) → p < lowest l → get_or l p 0 ≡ 0
@@ -95,107 +95,107 @@ sum-map f (x ∷ l) = ap (λ (z : ℤ). f x +ℤ z) (sum-map f l)
 -- ---- a held building
 module _ {points : List ℤ} {entries starts firsts : List ℕ} {s : Scalars} (ld : Loaded points entries starts firsts s) where
   abbrev told : Tables
-  told = heldTables points entries starts firsts s
+  told = held_tables points entries starts firsts s
 
   -- the points beyond the count are told of nothing
-  finding-held : (p : ℕ) → p < s.polygons → finding s.tolerance (take s.points (points_of points)) (polygonAt entries starts firsts p) ≡ finding s.tolerance (points_of points) (polygonAt entries starts firsts p)
-  finding-held p h = finding-take (points_of points) s.points (polygonAt entries starts firsts p) (polygon-below ld p h) s.tolerance
+  finding-held : (p : ℕ) → p < s.polygons → finding s.tolerance (take s.points (points_of points)) (polygon_at entries starts firsts p) ≡ finding s.tolerance (points_of points) (polygon_at entries starts firsts p)
+  finding-held p h = finding-take (points_of points) s.points (polygon_at entries starts firsts p) (polygon_below ld p h) s.tolerance
 
-  part_held : (p : ℕ) → p < s.polygons → part (take s.points (points_of points)) (polygonAt entries starts firsts p) ≡ part (points_of points) (polygonAt entries starts firsts p)
-  part_held p h = part-take (points_of points) s.points (polygonAt entries starts firsts p) (polygon-below ld p h)
+  part_held : (p : ℕ) → p < s.polygons → part (take s.points (points_of points)) (polygon_at entries starts firsts p) ≡ part (points_of points) (polygon_at entries starts firsts p)
+  part_held p h = part-take (points_of points) s.points (polygon_at entries starts firsts p) (polygon_below ld p h)
 
   module _ {found : List ℕ} (fo : Found points entries starts firsts found s) where
-    pub kept-finding : (p : ℕ) → p < s.polygons → get_or found p 0 ≡ keptFinding (finding told.tolerance told.points (get_or told.polygons p (one [])))
-    unfolding heldTables polygons
+    pub kept-finding : (p : ℕ) → p < s.polygons → get_or found p 0 ≡ kept_finding (finding told.tolerance told.points (get_or told.polygons p (one [])))
+    unfolding held_tables polygons
     kept-finding p h =
         fo.each p h
-        ∙ ap keptFinding (sym (finding-held p h) ∙ ap (finding s.tolerance (take s.points (points_of points))) (sym (tab-at (polygonAt entries starts firsts) s.polygons p (one []) h)))
+        ∙ ap kept_finding (sym (finding-held p h) ∙ ap (finding s.tolerance (take s.points (points_of points))) (sym (tab-at (polygon_at entries starts firsts) s.polygons p (one []) h)))
 
-    pub kept-findings : take s.polygons found ≡ map keptFinding (findings told)
-    unfolding findings heldTables polygons
+    pub kept-findings : take s.polygons found ≡ map kept_finding (findings told)
+    unfolding findings held_tables polygons
     kept-findings =
-        take-is-tab found s.polygons 0 (omega (arith, fo.size, ld.layout.few))
-        ∙ tab-ext (λ p. get_or found p 0) (λ p. keptFinding (finding s.tolerance (take s.points (points_of points)) (polygonAt entries starts firsts p))) s.polygons (λ p h. fo.each p h ∙ ap keptFinding (sym (finding-held p h)))
-        ∙ sym (map-tab keptFinding (λ p. finding s.tolerance (take s.points (points_of points)) (polygonAt entries starts firsts p)) s.polygons)
-        ∙ ap (map keptFinding) (sym (map-tab (finding s.tolerance (take s.points (points_of points))) (polygonAt entries starts firsts) s.polygons))
+        take_is_tab found s.polygons 0 (omega (arith, fo.size, ld.layout.few))
+        ∙ tab_ext (λ p. get_or found p 0) (λ p. kept_finding (finding s.tolerance (take s.points (points_of points)) (polygon_at entries starts firsts p))) s.polygons (λ p h. fo.each p h ∙ ap kept_finding (sym (finding-held p h)))
+        ∙ sym (map-tab kept_finding (λ p. finding s.tolerance (take s.points (points_of points)) (polygon_at entries starts firsts p)) s.polygons)
+        ∙ ap (map kept_finding) (sym (map-tab (finding s.tolerance (take s.points (points_of points))) (polygon_at entries starts firsts) s.polygons))
 
     pub kept-faults : tally (ltb 0) (take s.polygons found) ≡ (report told).faults
     unfolding report
-    kept-faults = ap (tally (ltb 0)) kept-findings ∙ tally-map (ltb 0) keptFinding (findings told) ∙ ap (λ (t : Finding → Bool). tally t (findings told)) (λ i f. kept-fault f i)
+    kept-faults = ap (tally (ltb 0)) kept-findings ∙ tally-map (ltb 0) kept_finding (findings told) ∙ ap (λ (t : Finding → Bool). tally t (findings told)) (λ i f. kept_fault f i)
 
     findings-count : length (findings told) ≡ s.polygons
-    unfolding findings heldTables polygons
-    findings-count = length-map (tab (polygonAt entries starts firsts) s.polygons) (finding s.tolerance (take s.points (points_of points))) ∙ tab-length (polygonAt entries starts firsts) s.polygons
+    unfolding findings held_tables polygons
+    findings-count = length-map (tab (polygon_at entries starts firsts) s.polygons) (finding s.tolerance (take s.points (points_of points))) ∙ tab-length (polygon_at entries starts firsts) s.polygons
 
     module _ {low : ℕ} (l : low ≡ lowest (take s.polygons found)) where
-      low-is : low ≡ lowest (map keptFinding (findings told))
+      low-is : low ≡ lowest (map kept_finding (findings told))
       low-is = l ∙ ap lowest kept-findings
 
       -- some polygon has a finding
-      pub told-faulty : low < s.polygons → (f : Finding) → f ≡ findingOf (get_or found low 0 % 16) (get_or found low 0 / 16) → Faulty low f ≡ verdict told
-      unfolding verdict lowestFault numbered first
+      pub told-faulty : low < s.polygons → (f : Finding) → f ≡ finding_of (get_or found low 0 % 16) (get_or found low 0 / 16) → Faulty low f ≡ verdict told
+      unfolding verdict lowest_fault numbered first
       told-faulty h f e =
-          let k : lowest (map keptFinding (findings told)) < length (findings told) = omega (arith, low-is, findings-count) in
-          let z : 0 + lowest (map keptFinding (findings told)) ≡ low = omega (arith, low-is) in
-          let g : f ≡ get_or (findings told) low Sound = e ∙ kept-is (get_or (findings told) low Sound) (kept_at low h) in
-          let q : some (Faulty (0 + lowest (map keptFinding (findings told))) (get_or (findings told) (lowest (map keptFinding (findings told))) Sound)) ≡ some (Faulty low f) =
+          let k : lowest (map kept_finding (findings told)) < length (findings told) = omega (arith, low-is, findings-count) in
+          let z : 0 + lowest (map kept_finding (findings told)) ≡ low = omega (arith, low-is) in
+          let g : f ≡ get_or (findings told) low Sound = e ∙ kept_is (get_or (findings told) low Sound) (kept_at low h) in
+          let q : some (Faulty (0 + lowest (map kept_finding (findings told))) (get_or (findings told) (lowest (map kept_finding (findings told))) Sound)) ≡ some (Faulty low f) =
           ap₂ (λ (i : ℕ) (x : Finding). some (Faulty i x)) z (ap (λ (i : ℕ). get_or (findings told) i Sound) (sym low-is) ∙ sym g) in
-          sym (ap (λ (o : Option Verdict). first Accepted (o ∷ shapeFault (shape told.polygons) ∷ given (le_z (sixVolume told) (pos 0)) Inward ∷ [])) (lowest-some 0 (findings told) k ∙ q))
+          sym (ap (λ (o : Option Verdict). first Accepted (o ∷ shape_fault (shape told.polygons) ∷ given (le_z (six_volume_of told) (pos 0)) Inward ∷ [])) (lowest-some 0 (findings told) k ∙ q))
         where
-          kept_at : (p : ℕ) → p < s.polygons → get_or found p 0 ≡ keptFinding (get_or (findings told) p Sound)
+          kept_at : (p : ℕ) → p < s.polygons → get_or found p 0 ≡ kept_finding (get_or (findings told) p Sound)
           kept_at p h = sym (get_or-take s.polygons found p 0 h) ∙ ap (λ (r : List ℕ). get_or r p 0) kept-findings ∙ map_at (findings told) p (omega (arith, findings-count))
             where
-              map_at : (fs : List Finding) (p : ℕ) → p < length fs → get_or (map keptFinding fs) p 0 ≡ keptFinding (get_or fs p Sound)
+              map_at : (fs : List Finding) (p : ℕ) → p < length fs → get_or (map kept_finding fs) p 0 ≡ kept_finding (get_or fs p Sound)
               map_at [] p h = absurd (omega arith)
               map_at (x ∷ fs) zero h = refl
               map_at (x ∷ fs) (suc p) h = map_at fs p (omega arith)
 
       -- none has one
-      pub told-sound : s.polygons ≤ low → verdict told ≡ first Accepted (shapeFault (shape told.polygons) ∷ given (le_z (sixVolume told) (pos 0)) Inward ∷ [])
-      unfolding verdict lowestFault numbered first
+      pub told-sound : s.polygons ≤ low → verdict told ≡ first Accepted (shape_fault (shape told.polygons) ∷ given (le_z (six_volume_of told) (pos 0)) Inward ∷ [])
+      unfolding verdict lowest_fault numbered first
       told-sound h =
-          let k : length (findings told) ≤ lowest (map keptFinding (findings told)) = omega (arith, low-is, findings-count) in
-          ap (λ (o : Option Verdict). first Accepted (o ∷ shapeFault (shape told.polygons) ∷ given (le_z (sixVolume told) (pos 0)) Inward ∷ [])) (lowest-none 0 (findings told) k)
+          let k : length (findings told) ≤ lowest (map kept_finding (findings told)) = omega (arith, low-is, findings-count) in
+          ap (λ (o : Option Verdict). first Accepted (o ∷ shape_fault (shape told.polygons) ∷ given (le_z (six_volume_of told) (pos 0)) Inward ∷ [])) (lowest-none 0 (findings told) k)
 
       -- and so none is one that no correction mends
       pub told-whole : s.polygons ≤ low → Broken entries starts firsts s.polygons → ⊥
       told-whole h b =
-          let f : Finding = finding s.tolerance (points_of points) (polygonAt entries starts firsts b.polygon) in
+          let f : Finding = finding s.tolerance (points_of points) (polygon_at entries starts firsts b.polygon) in
           let e : get_or found b.polygon 0 ≡ 0 = sym (get_or-take s.polygons found b.polygon 0 b.below) ∙ lowest-before (take s.polygons found) b.polygon (omega (arith, b.below)) in
-          true≢false (sym (kept-fault f ∙ unmendable-fault s.tolerance (points_of points) (polygonAt entries starts firsts b.polygon) b.broken) ∙ ap (ltb 0) (sym (fo.each b.polygon b.below) ∙ e))
+          true≢false (sym (kept_fault f ∙ unmendable_fault s.tolerance (points_of points) (polygon_at entries starts firsts b.polygon) b.broken) ∙ ap (ltb 0) (sym (fo.each b.polygon b.below) ∙ e))
 
   module _ {parts : List ℤ} (su : Summed points entries starts firsts parts s) where
     pub kept-part : (p : ℕ) → p < s.polygons → get_or parts p (pos 0) ≡ part told.points (get_or told.polygons p (one []))
-    unfolding heldTables polygons
-    kept-part p h = su.each p h ∙ sym (part_held p h) ∙ ap (part (take s.points (points_of points))) (sym (tab-at (polygonAt entries starts firsts) s.polygons p (one []) h))
+    unfolding held_tables polygons
+    kept-part p h = su.each p h ∙ sym (part_held p h) ∙ ap (part (take s.points (points_of points))) (sym (tab-at (polygon_at entries starts firsts) s.polygons p (one []) h))
 
-    pub kept-volume : sumUpTo parts s.polygons ≡ sixVolume told
-    unfolding sixVolume heldTables polygons
+    pub kept-volume : sum_up_to parts s.polygons ≡ six_volume_of told
+    unfolding six_volume_of held_tables polygons
     kept-volume =
         ap (sum_of (λ (z : ℤ). z))
-        (take-is-tab parts s.polygons (pos 0) (omega (arith, su.size, ld.layout.few))
-        ∙ tab-ext (λ p. get_or parts p (pos 0)) (λ p. part (take s.points (points_of points)) (polygonAt entries starts firsts p)) s.polygons (λ p h. su.each p h ∙ sym (part_held p h))
-        ∙ sym (map-tab (part (take s.points (points_of points))) (polygonAt entries starts firsts) s.polygons))
-        ∙ sum-map (part (take s.points (points_of points))) (tab (polygonAt entries starts firsts) s.polygons)
+        (take_is_tab parts s.polygons (pos 0) (omega (arith, su.size, ld.layout.few))
+        ∙ tab_ext (λ p. get_or parts p (pos 0)) (λ p. part (take s.points (points_of points)) (polygon_at entries starts firsts p)) s.polygons (λ p h. su.each p h ∙ sym (part_held p h))
+        ∙ sym (map-tab (part (take s.points (points_of points))) (polygon_at entries starts firsts) s.polygons))
+        ∙ sum-map (part (take s.points (points_of points))) (tab (polygon_at entries starts firsts) s.polygons)
 
     -- where the entries of polygon i start
     abbrev start : ℕ → ℕ
     start i = get_or starts (get_or firsts i 0) 0
 
     start-ordered : (i j : ℕ) → i ≤ j → j ≤ s.polygons → start i ≤ start j
-    start-ordered i j h k = ld.layout.ordered (get_or firsts i 0) (get_or firsts j 0) (firsts-ordered entries starts firsts s.polygons ld.layout i j h k) (firsts-ordered entries starts firsts s.polygons ld.layout j s.polygons k (le_refl s.polygons))
+    start-ordered i j h k = ld.layout.ordered (get_or firsts i 0) (get_or firsts j 0) (firsts_ordered entries starts firsts s.polygons ld.layout i j h k) (firsts_ordered entries starts firsts s.polygons ld.layout j s.polygons k (le_refl s.polygons))
 
     -- the sum of the first i parts is at most 6·10^15 for each entry up to there
-    sum-small : (i : ℕ) → i ≤ s.polygons → Small (start i * 6000000000000000) (sumUpTo parts i)
+    sum-small : (i : ℕ) → i ≤ s.polygons → Small (start i * 6000000000000000) (sum_up_to parts i)
     unfolding sum_of
-    sum-small zero h = small-zero
+    sum-small zero h = small_zero
     sum-small (suc i) h =
         let l = (stands_of ld i (omega arith)).lies in
         let f : start i ≤ start (i + 1) = start-ordered i (i + 1) (omega arith) (omega arith) in
         let n : suc i ≡ i + 1 = omega arith in
         let p : Small ((start (i + 1) - start i) * 6000000000000000) (get_or parts i (pos 0)) = subst (λ (z : ℤ). Small ((start (i + 1) - start i) * 6000000000000000) z) (sym (su.each i (omega arith))) (part-of-small l.rings l.some ld.coords) in
-        let ih : Small (start i * 6000000000000000) (sumUpTo parts i) = sum-small i (omega arith) in
-        rw n (subst (λ (z : ℤ). Small (start (i + 1) * 6000000000000000) z) (sym (sum_more parts i (omega (arith, su.size, ld.layout.few)))) (small-more (grow (start i) (start (i + 1)) f) (small-add ih p)))
+        let ih : Small (start i * 6000000000000000) (sum_up_to parts i) = sum-small i (omega arith) in
+        rw n (subst (λ (z : ℤ). Small (start (i + 1) * 6000000000000000) z) (sym (sum_more parts i (omega (arith, su.size, ld.layout.few)))) (small_more (grow (start i) (start (i + 1)) f) (small_add ih p)))
       where
         grow : (a e : ℕ) → a ≤ e → a * 6000000000000000 + (e - a) * 6000000000000000 ≤ e * 6000000000000000
         grow a e g = omega arith
@@ -205,26 +205,26 @@ module _ {points : List ℤ} {entries starts firsts : List ℕ} {s : Scalars} (l
         record {
           size = su.size;
           few = ld.layout.few;
-          small = λ i h. small-more (omega (arith, start-ordered i s.polygons h (le_refl s.polygons), ld.layout.inside)) (sum-small i h);
+          small = λ i h. small_more (omega (arith, start-ordered i s.polygons h (le_refl s.polygons), ld.layout.inside)) (sum-small i h);
         }
 
 -- the stamp of a polygon
-pub kept-stamp : (a : Arrays) (s : Scalars) (p : ℕ) → p < s.polygons → get_or a.stamps p 0 ≡ get_or (heldBuilding a s).stamps p 0
-unfolding heldBuilding
-kept-stamp a s p h = sym (get_or-take s.polygons a.stamps p 0 h)
+pub kept_stamp : (a : Arrays) (s : Scalars) (p : ℕ) → p < s.polygons → get_or a.stamps p 0 ≡ get_or (held_building a s).stamps p 0
+unfolding held_building
+kept_stamp a s p h = sym (get_or-take s.polygons a.stamps p 0 h)
 
 -- ---- the verdict where no polygon has a finding
-rows-unsound : (sh : Shape) (v : ℤ) → ltb 0 (shapeNumber sh) ≡ true → first Accepted (shapeFault sh ∷ given (le_z v (pos 0)) Inward ∷ []) ≡ Unsound sh
-unfolding first given shapeFault
-rows-unsound sh v e = rw e
+rows_unsound : (sh : Shape) (v : ℤ) → ltb 0 (shape_number_of sh) ≡ true → first Accepted (shape_fault sh ∷ given (le_z v (pos 0)) Inward ∷ []) ≡ Unsound sh
+unfolding first given shape_fault
+rows_unsound sh v e = rw e
 
-rows-inward : (sh : Shape) (v : ℤ) → ltb 0 (shapeNumber sh) ≡ false → le_z v (pos 0) ≡ true → first Accepted (shapeFault sh ∷ given (le_z v (pos 0)) Inward ∷ []) ≡ Inward
-unfolding first given shapeFault
-rows-inward sh v e f = rw (e, f)
+rows_inward : (sh : Shape) (v : ℤ) → ltb 0 (shape_number_of sh) ≡ false → le_z v (pos 0) ≡ true → first Accepted (shape_fault sh ∷ given (le_z v (pos 0)) Inward ∷ []) ≡ Inward
+unfolding first given shape_fault
+rows_inward sh v e f = rw (e, f)
 
-rows-accepted : (sh : Shape) (v : ℤ) → ltb 0 (shapeNumber sh) ≡ false → le_z v (pos 0) ≡ false → first Accepted (shapeFault sh ∷ given (le_z v (pos 0)) Inward ∷ []) ≡ Accepted
-unfolding first given shapeFault
-rows-accepted sh v e f = rw (e, f)
+rows_accepted : (sh : Shape) (v : ℤ) → ltb 0 (shape_number_of sh) ≡ false → le_z v (pos 0) ≡ false → first Accepted (shape_fault sh ∷ given (le_z v (pos 0)) Inward ∷ []) ≡ Accepted
+unfolding first given shape_fault
+rows_accepted sh v e f = rw (e, f)
 
 module _ {points : List ℤ} {entries starts firsts : List ℕ} {s : Scalars} (ld : Loaded points entries starts firsts s) {found : List ℕ} {parts : List ℤ} {table turned : List ℕ} (kp : Kept points entries starts firsts found parts table turned s) where
   abbrev low : ℕ
@@ -239,35 +239,35 @@ module _ {points : List ℤ} {entries starts firsts : List ℕ} {s : Scalars} (l
 
   module _ (sound : tally (ltb 0) (take s.polygons found) ≡ 0) where
     low-past : s.polygons ≤ low
-    low-past = omega (arith, lowest-is-length (take s.polygons found) sound, all_told)
+    low-past = omega (arith, lowest_is_length (take s.polygons found) sound, all_told)
 
     told-edged : Edged (polygons entries starts firsts s.polygons) table s.edges turned s.fixed
     told-edged = ⊎_elim (λ b. absurd (told-whole ld kp.found refl low-past b)) (λ ed. ed) kp.shaped
 
     -- what is kept of the shape is that of the present rings
     told-shape : s.shape ≡ shape (polygons entries starts firsts s.polygons)
-    told-shape = kp.shown ∙ now-is (polygons entries starts firsts s.polygons) table s.edges turned s.fixed told-edged
+    told-shape = kp.shown ∙ now_is (polygons entries starts firsts s.polygons) table s.edges turned s.fixed told-edged
 
-    module _ {number : ℕ} (n : number ≡ shapeNumber s.shape) where
-      pub says-unsound : (number ≡ 0 → ⊥) → Unsound s.shape ≡ verdict (heldTables points entries starts firsts s)
-      unfolding heldTables
+    module _ {number : ℕ} (n : number ≡ shape_number_of s.shape) where
+      pub says-unsound : (number ≡ 0 → ⊥) → Unsound s.shape ≡ verdict (held_tables points entries starts firsts s)
+      unfolding held_tables
       says-unsound z =
           sym (told-sound ld kp.found refl low-past
-          ∙ ap (λ (x : Shape). first Accepted (shapeFault x ∷ given (le_z (sixVolume (heldTables points entries starts firsts s)) (pos 0)) Inward ∷ [])) (sym told-shape)
-          ∙ rows-unsound s.shape (sixVolume (heldTables points entries starts firsts s)) (above (shapeNumber s.shape) (λ q. z (n ∙ q))))
+          ∙ ap (λ (x : Shape). first Accepted (shape_fault x ∷ given (le_z (six_volume_of (held_tables points entries starts firsts s)) (pos 0)) Inward ∷ [])) (sym told-shape)
+          ∙ rows_unsound s.shape (six_volume_of (held_tables points entries starts firsts s)) (above (shape_number_of s.shape) (λ q. z (n ∙ q))))
 
-      module _ (z : number ≡ 0) {v : ℤ} (w : v ≡ sumUpTo parts s.polygons) where
-        none-unsound : ltb 0 (shapeNumber s.shape) ≡ false
-        none-unsound = le-ltb 0 (shapeNumber s.shape) (omega (arith, n))
+      module _ (z : number ≡ 0) {v : ℤ} (w : v ≡ sum_up_to parts s.polygons) where
+        none-unsound : ltb 0 (shape_number_of s.shape) ≡ false
+        none-unsound = le-ltb 0 (shape_number_of s.shape) (omega (arith, n))
 
-        rest : verdict (heldTables points entries starts firsts s) ≡ first Accepted (shapeFault s.shape ∷ given (le_z v (pos 0)) Inward ∷ [])
-        unfolding heldTables
+        rest : verdict (held_tables points entries starts firsts s) ≡ first Accepted (shape_fault s.shape ∷ given (le_z v (pos 0)) Inward ∷ [])
+        unfolding held_tables
         rest =
             told-sound ld kp.found refl low-past
-            ∙ ap₂ (λ (x : Shape) (y : ℤ). first Accepted (shapeFault x ∷ given (le_z y (pos 0)) Inward ∷ [])) (sym told-shape) (sym (w ∙ kept-volume ld kp.summed))
+            ∙ ap₂ (λ (x : Shape) (y : ℤ). first Accepted (shape_fault x ∷ given (le_z y (pos 0)) Inward ∷ [])) (sym told-shape) (sym (w ∙ kept-volume ld kp.summed))
 
-        pub says-inward : le_z v (pos 0) ≡ true → Inward ≡ verdict (heldTables points entries starts firsts s)
-        says-inward t = sym (rest ∙ rows-inward s.shape v none-unsound t)
+        pub says-inward : le_z v (pos 0) ≡ true → Inward ≡ verdict (held_tables points entries starts firsts s)
+        says-inward t = sym (rest ∙ rows_inward s.shape v none-unsound t)
 
-        pub says-accepted : le_z v (pos 0) ≡ false → Accepted ≡ verdict (heldTables points entries starts firsts s)
-        says-accepted t = sym (rest ∙ rows-accepted s.shape v none-unsound t)
+        pub says-accepted : le_z v (pos 0) ≡ false → Accepted ≡ verdict (held_tables points entries starts firsts s)
+        says-accepted t = sym (rest ∙ rows_accepted s.shape v none-unsound t)

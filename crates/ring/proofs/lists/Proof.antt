@@ -6,9 +6,9 @@ use Prim.Native.Nat.{◌≤◌, ◌-◌}
 use lib.ListN.{length, drop}
 use lib.Dec.{eqb}
 use borrow.Author.Rules.{rules}
-use Rattle.whole.specs.laws.Search.{any-end}
+use Rattle.whole.specs.laws.Search.{any_end}
 use Rattle.whole.specs.Lists.{lists, any}
-use Rattle.ring.specs.laws.Rings.{found-more}
+use Rattle.ring.specs.laws.Rings.{found_more}
 use Rattle.ring.proofs.lists.Statement.{statement}
 use Rattle.ring.proofs.lists.Tie as tie
 
@@ -37,14 +37,14 @@ loop-again : tie.Need-loop-preserved invariant-loop decreases-loop
 loop-again c =
     let l = c.before.before.loop in
     let a = c.before.before.before.args in
-    (omega arith, found-more (eqb a.n) a.ring.now l.k l.found c.before.loop-test.true l.invariant.1)
+    (omega arith, found_more (eqb a.n) a.ring.now l.k l.found c.before.loop-test.true l.invariant.1)
 
 returns : tie.Need-returns invariant-loop decreases-loop
 unfolding lists
 returns c =
     let l = c.before.loop in
     let a = c.before.before.args in
-    sym (or-false l.found) ∙ ap (λ (t : Bool). l.found || t) (sym (any-end (eqb a.n) a.ring.now l.k (omega arith))) ∙ l.invariant.1
+    sym (or-false l.found) ∙ ap (λ (t : Bool). l.found || t) (sym (any_end (eqb a.n) a.ring.now l.k (omega arith))) ∙ l.invariant.1
 
 pub lists-spec : {M : Type 1} → statement M
 lists-spec =

@@ -1,7 +1,7 @@
 -- `rings::add_inner` meets its contract.
 use Rattle.desk.specs.held.Holds.{service, does}
-use Rattle.rings.specs.laws.Dids.{did-rings, did-inner}
-use Rattle.desk.specs.laws.Dids.{did-refused}
+use Rattle.rings.specs.laws.Dids.{did_rings, did-inner}
+use Rattle.desk.specs.laws.Dids.{did_refused}
 use Rattle.frame.specs.Frame.{inner, numbers}
 use lib.ListN.{drop}
 use native.Mathlib.Omega.{arith}
@@ -49,8 +49,8 @@ returns-2 c =
     λ a ee se fe v.
     let g = c.before.before.before.before.before.before.before.before.before.before.before.args in
     let o = c.before.before.before.before.before.before.of_inner in
-    did-rings (does (service a g.d) (inner (numbers (drop 2 g.line.now)))) g.room.now g.d.at a _ _ g.entries.now g.starts.now g.firsts.now ee se fe
-    (did-refused a g.d v (inner (numbers (drop 2 g.line.now))) o.result g.room.now _ _ (o.ensures.is a (se, fe) v) (sym c.before.before.before.before.before.is-accepted.ensures ∙ c.before.before.before.before.if1.false) (c.before.before.refuse.ensures a v))
+    did_rings (does (service a g.d) (inner (numbers (drop 2 g.line.now)))) g.room.now g.d.at a _ _ g.entries.now g.starts.now g.firsts.now ee se fe
+    (did_refused a g.d v (inner (numbers (drop 2 g.line.now))) o.result g.room.now _ _ (o.ensures.is a (se, fe) v) (sym c.before.before.before.before.before.is-accepted.ensures ∙ c.before.before.before.before.if1.false) (c.before.before.refuse.ensures a v))
 
 pub add-inner-spec : {M : Type 1} → statement M
 add-inner-spec =

@@ -1,7 +1,7 @@
 -- `rings::add_polygon` meets its contract.
 use Rattle.desk.specs.held.Holds.{service, does}
-use Rattle.rings.specs.laws.Dids.{did-rings, did-polygon}
-use Rattle.desk.specs.laws.Dids.{did-refused}
+use Rattle.rings.specs.laws.Dids.{did_rings, did-polygon}
+use Rattle.desk.specs.laws.Dids.{did_refused}
 use Rattle.frame.specs.Frame.{polygon, numbers}
 use lib.ListN.{drop}
 use native.Mathlib.Omega.{arith}
@@ -19,7 +19,7 @@ is-accepted-requires c κs = search rules
 add-ring-requires : tie.Need-add-ring-requires
 add-ring-requires c κs =
     let s = c.before.before.before.before.before.before.before.before.before.before.before.before in
-    (s.requires, c.before.before.before.before.before.before.before.of-polygon.ensures.fit (sym c.before.before.before.before.before.before.is-accepted.ensures ∙ c.before.before.before.before.before.if1.true))
+    (s.requires, c.before.before.before.before.before.before.before.of_polygon_lem.ensures.fit (sym c.before.before.before.before.before.before.is-accepted.ensures ∙ c.before.before.before.before.before.if1.true))
 
 same_length : tie.Need-same-length
 same_length c = search rules
@@ -30,7 +30,7 @@ returns c =
     let s = c.before.before.before.before.before.before.before.before.before.before.before.before.before.before.before in
     let g = s.args in
     let k = s.requires.1.0 in
-    let o = c.before.before.before.before.before.before.before.before.before.before.of-polygon in
+    let o = c.before.before.before.before.before.before.before.before.before.before.of_polygon_lem in
     did-polygon a g.d v (numbers (drop 2 g.line.now)) o.result (sym c.before.before.before.before.before.before.before.before.before.is-accepted.ensures ∙ c.before.before.before.before.before.before.before.before.if1.true) (omega (arith, k.count, k.few)) ee se fe s.requires.1.1.1 c.before.before.add-ring.ensures o.ensures refl
 
 refuse-requires : tie.Need-refuse-requires
@@ -43,9 +43,9 @@ returns-2 : tie.Need-returns-2
 returns-2 c =
     λ a ee se fe v.
     let g = c.before.before.before.before.before.before.before.before.before.before.before.args in
-    let o = c.before.before.before.before.before.before.of-polygon in
-    did-rings (does (service a g.d) (polygon (numbers (drop 2 g.line.now)))) g.room.now g.d.at a _ _ g.entries.now g.starts.now g.firsts.now ee se fe
-    (did-refused a g.d v (polygon (numbers (drop 2 g.line.now))) o.result g.room.now _ _ (o.ensures.is a (se, fe) v) (sym c.before.before.before.before.before.is-accepted.ensures ∙ c.before.before.before.before.if1.false) (c.before.before.refuse.ensures a v))
+    let o = c.before.before.before.before.before.before.of_polygon_lem in
+    did_rings (does (service a g.d) (polygon (numbers (drop 2 g.line.now)))) g.room.now g.d.at a _ _ g.entries.now g.starts.now g.firsts.now ee se fe
+    (did_refused a g.d v (polygon (numbers (drop 2 g.line.now))) o.result g.room.now _ _ (o.ensures.is a (se, fe) v) (sym c.before.before.before.before.before.is-accepted.ensures ∙ c.before.before.before.before.if1.false) (c.before.before.refuse.ensures a v))
 
 pub add-polygon-spec : {M : Type 1} → statement M
 add-polygon-spec =

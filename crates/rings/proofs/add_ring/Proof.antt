@@ -1,5 +1,5 @@
 -- `rings::add_ring` meets its contract.
-use Rattle.rings.specs.held.Rings.{ringsIn}
+use Rattle.rings.specs.held.Rings.{rings_in}
 use lib.ListN.{get_or, set}
 use Prim.Native.Nat.{◌+◌}
 use native.Mathlib.Omega.{arith}
@@ -42,7 +42,7 @@ close-ring-requires c κs =
     let n = s.requires.0.1.0.count in
     let h = s.requires.1.space in
     let e = s.requires.0.1.1.1 in
-    (e.starts-size, (e.fewer s.requires.1.loading, omega arith))
+    (e.starts_size, (e.fewer s.requires.1.loading, omega arith))
 
 add-close-polygon : tie.Need-overflow-add-close-polygon
 add-close-polygon c = search rules
@@ -51,7 +51,7 @@ close-polygon-requires : tie.Need-close-polygon-requires
 close-polygon-requires c κs =
     let s = c.before.before.before.before.before.before.before.before.before.before in
     let e = s.requires.0.1.1.1 in
-    (e.firsts-size, (s.requires.1.few, omega (arith, e.fewer s.requires.1.loading)))
+    (e.firsts_size, (s.requires.1.few, omega (arith, e.fewer s.requires.1.loading)))
 
 put-plain-requires : tie.Need-put-plain-requires
 put-plain-requires c κs = search rules
@@ -68,7 +68,7 @@ returns c =
     let g = c.before.before.before.before.before.before.before.before.before.before.before.before.before.before.before.args in
     record {
       entered = c.before.before.before.before.before.before.before.before.copy-ring.ensures;
-      started = c.before.before.before.before.before.before.close-ring.ensures ∙ (λ i. set g.starts.now (ringsIn g.firsts.now g.d + 1) (get_or g.starts.now (ringsIn g.firsts.now g.d) 0 + k.count i));
+      started = c.before.before.before.before.before.before.close-ring.ensures ∙ (λ i. set g.starts.now (rings_in g.firsts.now g.d + 1) (get_or g.starts.now (rings_in g.firsts.now g.d) 0 + k.count i));
       closed = c.before.before.before.before.close-polygon.ensures;
       held = refl;
       wrote = c.before.before.put-plain.ensures;

@@ -1,5 +1,5 @@
 -- `rings::names_absent` meets its contract.
-use Rattle.whole.specs.laws.Search.{any_here, any_next, any-end}
+use Rattle.whole.specs.laws.Search.{any_here, any_next, any_end}
 use Rattle.whole.specs.Lists.{any}
 use borrow.Author.Rules.{rules}
 use borrow.Author.Tests.{le-leb, lt-leb}
@@ -50,7 +50,7 @@ loop-again c =
 returns-2 : tie.Need-returns-2 invariant-loop decreases-loop
 returns-2 c =
     let n = c.before.before.before.requires.count in
-    sym (any-end (leb c.before.before.before.args.points) (numbers (drop 2 c.before.before.before.args.line.now)) c.before.loop.i (omega arith)) ∙ c.before.loop.invariant.1
+    sym (any_end (leb c.before.before.before.args.points) (numbers (drop 2 c.before.before.before.args.line.now)) c.before.loop.i (omega arith)) ∙ c.before.loop.invariant.1
 
 pub names-absent-spec : {M : Type 1} → statement M
 names-absent-spec =

@@ -4,11 +4,11 @@ use Rattle.frame.specs.Frame.{polygon, inner}
 use Rattle.building.specs.held.Holds.{Arrays}
 use Rattle.desk.specs.declared.Desk.{Desk}
 use Rattle.desk.specs.held.Holds.{service, Did, does}
-use Rattle.desk.specs.laws.Agree.{Same, did-agree}
+use Rattle.desk.specs.laws.Agree.{Same, did_agree}
 
 module _ (a : Arrays) (d : Desk) (room room₁ room₂ : List ℕ) (a₁ a₂ : Arrays) (d₁ d₂ : Desk) where
-  pub add-polygon-agrees : (ring : List ℕ) → Did (does (service a d) (polygon ring)) room d.at a₁ room₁ d₁ → Did (does (service a d) (polygon ring)) room d.at a₂ room₂ d₂ → Same room₁ room₂ a₁ a₂ d₁ d₂
-  add-polygon-agrees ring = did-agree
+  pub add_polygon_agrees : (ring : List ℕ) → Did (does (service a d) (polygon ring)) room d.at a₁ room₁ d₁ → Did (does (service a d) (polygon ring)) room d.at a₂ room₂ d₂ → Same room₁ room₂ a₁ a₂ d₁ d₂
+  add_polygon_agrees ring = did_agree
 
-  pub add-inner-agrees : (ring : List ℕ) → Did (does (service a d) (inner ring)) room d.at a₁ room₁ d₁ → Did (does (service a d) (inner ring)) room d.at a₂ room₂ d₂ → Same room₁ room₂ a₁ a₂ d₁ d₂
-  add-inner-agrees ring = did-agree
+  pub add_inner_agrees : (ring : List ℕ) → Did (does (service a d) (inner ring)) room d.at a₁ room₁ d₁ → Did (does (service a d) (inner ring)) room d.at a₂ room₂ d₂ → Same room₁ room₂ a₁ a₂ d₁ d₂
+  add_inner_agrees ring = did_agree

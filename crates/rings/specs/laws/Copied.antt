@@ -2,7 +2,7 @@
 use Rattle.std.specs.Prelude.{ℕ, suc, ◌+◌, ◌<◌, ◌≡◌, List, ◌∷◌, length, drop, get_or, set}
 use Rattle.std.proofs.Common.{arith, sym, ap, ◌∙◌, length-set}
 use Rattle.std.proofs.lemmas.List.Edits.{sets}
-use Rattle.whole.specs.laws.Search.{drop-next, drop-end}
+use Rattle.whole.specs.laws.Search.{drop-next, drop_end}
 
 pub record Copied (ring entries₀ : List ℕ) (from i : ℕ) (entries : List ℕ) : Type 0 where
   pub size : length entries ≡ 1024
@@ -24,4 +24,4 @@ copied_more {ring} {entries₀} {entries} {from} {i} c h x e =
     }
 
 pub copied_all : {ring entries₀ entries : List ℕ} {from i : ℕ} → Copied ring entries₀ from i entries → i ≡ length ring → entries ≡ sets entries₀ from ring
-copied_all {ring} {entries₀} {entries} {from} {i} c e = sym (ap (sets entries (from + i)) (drop-end ring i e)) ∙ c.rest
+copied_all {ring} {entries₀} {entries} {from} {i} c e = sym (ap (sets entries (from + i)) (drop_end ring i e)) ∙ c.rest

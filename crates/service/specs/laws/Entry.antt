@@ -12,28 +12,28 @@ use Rattle.lines.specs.Lines.{lines, ended, joined}
 use Rattle.lines.specs.laws.LineLaws.{NoFeed, lines-joined, length-joined}
 use Rattle.hex.specs.Hex.{digits, bits32}
 use Rattle.hex.specs.laws.Back.{length_digits}
-use Rattle.frame.specs.laws.RoundTrip.{length-fourEach}
-use Rattle.frame.specs.Frame.{begin, point, polygon, end-of-load, inner}
-use Rattle.frame.specs.Encode.{encode, eight, fourEach}
-use Rattle.frame.specs.laws.Written.{encode-no-feed}
+use Rattle.frame.specs.laws.RoundTrip.{length-four_each}
+use Rattle.frame.specs.Frame.{begin, point, polygon, end_of_load, inner}
+use Rattle.frame.specs.Encode.{encode, eight, four_each}
+use Rattle.frame.specs.laws.Written.{encode_no_feed}
 use Rattle.space.specs.Space.{Point}
-use Rattle.ring.specs.Polygon.{Polygon, ringsOf, all, entriesOf, allRings}
+use Rattle.ring.specs.Polygon.{Polygon, rings_of, all, entries_from, all_rings}
 use Rattle.building.specs.Tables.{Tables, entries, loaded}
 use Rattle.building.specs.laws.Loadable.{Loadable}
 use Rattle.building.specs.laws.History.{points-told}
 use Rattle.service.specs.Service.{State, nothing, step}
 use Rattle.service.specs.Stream.{Served, run, answers, served, Answers, after, Stands}
-use Rattle.service.specs.Fresh.{pointLine, innerLine, lines_of, polygonLines, loadLines, freshReport, freshStream}
-use Rattle.service.specs.Span.{Span, loadedBy, correctionsOf, correctedBy}
-use Rattle.service.specs.laws.Span.{end-takes, corrected-loadable}
-use Rattle.service.specs.laws.Across.{corrections-keep}
-use Rattle.service.specs.laws.Rings.{ringCount, rings-turn, parts, loadCount, step_lines, lines_after}
+use Rattle.service.specs.Fresh.{point_line, inner_line, lines_of, polygon_lines, load_lines, fresh_report, fresh_stream}
+use Rattle.service.specs.Span.{Span, loaded_by, corrections_of, corrected_by}
+use Rattle.service.specs.laws.Span.{end_takes, corrected_loadable}
+use Rattle.service.specs.laws.Across.{corrections_keep}
+use Rattle.service.specs.laws.Rings.{ring_count, rings-turn, parts, load_count, step_lines, lines_after}
 use Rattle.service.specs.laws.Room.{answered-stream}
 use Rattle.building.specs.Corrections as C
 
 -- any two results that the entry's statement allows agree
-pub answer-agrees : (stream room : List ℕ) (c₁ c₂ : ℤ) (r₁ r₂ : List ℕ) → Answers stream room c₁ r₁ → Answers stream room c₂ r₂ → (c₁ ≡ c₂) × (r₁ ≡ r₂)
-answer-agrees stream room c₁ c₂ r₁ r₂ a b = (agree a.number b.number, agree a.bytes b.bytes)
+pub answer_agrees : (stream room : List ℕ) (c₁ c₂ : ℤ) (r₁ r₂ : List ℕ) → Answers stream room c₁ r₁ → Answers stream room c₂ r₂ → (c₁ ≡ c₂) × (r₁ ≡ r₂)
+answer_agrees stream room c₁ c₂ r₁ r₂ a b = (agree a.number b.number, agree a.bytes b.bytes)
 
 -- the answers to some lines, to one more, and to those after it
 run_at : (st : State) (ls : List (List ℕ)) (l : List ℕ) (rest : List (List ℕ)) → run st (ls ++ l ∷ rest) ≡ run st ls ++ (ended (step (after st ls) l).answer ++ run (step (after st ls) l).next rest)
@@ -51,144 +51,144 @@ answers-last stream ls l e =
     ∙ run_at nothing ls l []
     ∙ ap (λ (q : List ℕ). run nothing ls ++ q) (append-nil (ended (step (after nothing ls) l).answer))
 
-points-no-feed : (ps : List Point) → All NoFeed (map pointLine ps)
-unfolding pointLine
-points-no-feed [] = none
-points-no-feed (p ∷ ps) = more (encode-no-feed (point p.x p.y p.z)) (points-no-feed ps)
+points_no_feed : (ps : List Point) → All NoFeed (map point_line ps)
+unfolding point_line
+points_no_feed [] = none
+points_no_feed (p ∷ ps) = more (encode_no_feed (point p.x p.y p.z)) (points_no_feed ps)
 
-inner-no-feed : (rings : List (List ℕ)) → All NoFeed (map innerLine rings)
-unfolding innerLine
-inner-no-feed [] = none
-inner-no-feed (ring ∷ rings) = more (encode-no-feed (inner ring)) (inner-no-feed rings)
+inner_no_feed : (rings : List (List ℕ)) → All NoFeed (map inner_line rings)
+unfolding inner_line
+inner_no_feed [] = none
+inner_no_feed (ring ∷ rings) = more (encode_no_feed (inner ring)) (inner_no_feed rings)
 
-polygons-no-feed : (ps : List Polygon) → All NoFeed (polygonLines ps)
-unfolding polygonLines lines_of
-polygons-no-feed [] = none
-polygons-no-feed (p ∷ ps) = all_append (more (encode-no-feed (polygon p.outer)) (inner-no-feed p.inner)) (polygons-no-feed ps)
+polygons_no_feed : (ps : List Polygon) → All NoFeed (polygon_lines ps)
+unfolding polygon_lines lines_of
+polygons_no_feed [] = none
+polygons_no_feed (p ∷ ps) = all_append (more (encode_no_feed (polygon p.outer)) (inner_no_feed p.inner)) (polygons_no_feed ps)
 
-pub fresh_lines : (t : Tables) → lines (freshStream t) ≡ loadLines t ++ (encode end-of-load ∷ [])
-unfolding freshStream loadLines
+pub fresh_lines : (t : Tables) → lines (fresh_stream t) ≡ load_lines t ++ (encode end_of_load ∷ [])
+unfolding fresh_stream load_lines
 fresh_lines t =
-    lines-joined (loadLines t ++ (encode end-of-load ∷ []))
-    (all_append (more (encode-no-feed (begin t.tolerance)) (all_append (points-no-feed t.points) (polygons-no-feed t.polygons))) (more (encode-no-feed end-of-load) none))
+    lines-joined (load_lines t ++ (encode end_of_load ∷ []))
+    (all_append (more (encode_no_feed (begin t.tolerance)) (all_append (points_no_feed t.points) (polygons_no_feed t.polygons))) (more (encode_no_feed end_of_load) none))
 
 -- fed to the same service, it answers the fresh report last
-pub fresh-answers : (t : Tables) → answers (freshStream t) ≡ run nothing (loadLines t) ++ ended (freshReport t)
-unfolding freshReport
-fresh-answers t = answers-last (freshStream t) (loadLines t) (encode end-of-load) (fresh_lines t)
+pub fresh_answers : (t : Tables) → answers (fresh_stream t) ≡ run nothing (load_lines t) ++ ended (fresh_report t)
+unfolding fresh_report
+fresh_answers t = answers-last (fresh_stream t) (load_lines t) (encode end_of_load) (fresh_lines t)
 
 -- ---- and it is a stream that is not refused as a whole
 
-length-point : (p : Point) → length (pointLine p) ≡ 26
-unfolding pointLine encode eight
-length-point p =
+length_point : (p : Point) → length (point_line p) ≡ 26
+unfolding point_line encode eight
+length_point p =
     let x : length (eight p.x) ≡ 8 = length_digits 8 (bits32 p.x) in
     let y : length (eight p.y) ≡ 8 = length_digits 8 (bits32 p.y) in
     let z : length (eight p.z) ≡ 8 = length_digits 8 (bits32 p.z) in
     omega (arith, length-append (digits 2 2) (eight p.x ++ (eight p.y ++ eight p.z)), length_digits 2 2, length-append (eight p.x) (eight p.y ++ eight p.z), length-append (eight p.y) (eight p.z))
 
 -- the line of a ring, of kind n
-length-ring : (n : ℕ) (ring : List ℕ) → length (digits 2 n ++ fourEach ring) ≡ 2 + 4 * length ring
-length-ring n ring = omega (arith, length-append (digits 2 n) (fourEach ring), length_digits 2 n, length-fourEach ring)
+length_ring : (n : ℕ) (ring : List ℕ) → length (digits 2 n ++ four_each ring) ≡ 2 + 4 * length ring
+length_ring n ring = omega (arith, length-append (digits 2 n) (four_each ring), length_digits 2 n, length-four_each ring)
 
-joined-append : (ls ms : List (List ℕ)) → length (joined (ls ++ ms)) ≡ length (joined ls) + length (joined ms)
-joined-append [] ms = unfold joined in (omega arith)
-joined-append (l ∷ ls) ms = omega (arith, length-joined l (ls ++ ms), length-joined l ls, joined-append ls ms)
+joined_append : (ls ms : List (List ℕ)) → length (joined (ls ++ ms)) ≡ length (joined ls) + length (joined ms)
+joined_append [] ms = unfold joined in (omega arith)
+joined_append (l ∷ ls) ms = omega (arith, length-joined l (ls ++ ms), length-joined l ls, joined_append ls ms)
 
-points-bytes : (ps : List Point) → length (joined (map pointLine ps)) ≡ 27 * length ps
+points-bytes : (ps : List Point) → length (joined (map point_line ps)) ≡ 27 * length ps
 points-bytes [] = unfold joined in refl
-points-bytes (p ∷ ps) = omega (arith, length-joined (pointLine p) (map pointLine ps), length-point p, points-bytes ps)
+points-bytes (p ∷ ps) = omega (arith, length-joined (point_line p) (map point_line ps), length_point p, points-bytes ps)
 
-inner-bytes : (rings : List (List ℕ)) → length (joined (map innerLine rings)) ≡ 3 * length rings + 4 * length (all (λ r. r) rings)
-unfolding innerLine encode all
+inner-bytes : (rings : List (List ℕ)) → length (joined (map inner_line rings)) ≡ 3 * length rings + 4 * length (all (λ r. r) rings)
+unfolding inner_line encode all
 inner-bytes [] = unfold joined in refl
 inner-bytes (ring ∷ rings) =
     let n : length (ring ++ all (λ r. r) rings) ≡ length ring + length (all (λ r. r) rings) = length-append ring (all (λ r. r) rings) in
-    omega (arith, length-joined (digits 2 8 ++ fourEach ring) (map innerLine rings), length-ring 8 ring, inner-bytes rings)
+    omega (arith, length-joined (digits 2 8 ++ four_each ring) (map inner_line rings), length_ring 8 ring, inner-bytes rings)
 
-polygon-bytes : (p : Polygon) → length (joined (lines_of p)) ≡ 3 * length (ringsOf p) + 4 * length (entriesOf p)
-unfolding lines_of encode ringsOf entriesOf all
+polygon-bytes : (p : Polygon) → length (joined (lines_of p)) ≡ 3 * length (rings_of p) + 4 * length (entries_from p)
+unfolding lines_of encode rings_of entries_from all
 polygon-bytes p =
     let n : length (p.outer ++ all (λ r. r) p.inner) ≡ length p.outer + length (all (λ r. r) p.inner) = length-append p.outer (all (λ r. r) p.inner) in
-    omega (arith, length-joined (digits 2 3 ++ fourEach p.outer) (map innerLine p.inner), length-ring 3 p.outer, inner-bytes p.inner)
+    omega (arith, length-joined (digits 2 3 ++ four_each p.outer) (map inner_line p.inner), length_ring 3 p.outer, inner-bytes p.inner)
 
-polygons-bytes : (ps : List Polygon) → length (joined (polygonLines ps)) ≡ 3 * ringCount ps + 4 * entries ps
-unfolding polygonLines allRings entries
+polygons-bytes : (ps : List Polygon) → length (joined (polygon_lines ps)) ≡ 3 * ring_count ps + 4 * entries ps
+unfolding polygon_lines all_rings entries
 polygons-bytes [] = unfold joined in refl
-polygons-bytes (p ∷ ps) = omega (arith, joined-append (lines_of p) (polygonLines ps), polygon-bytes p, length-append (ringsOf p) (allRings ps), polygons-bytes ps)
+polygons-bytes (p ∷ ps) = omega (arith, joined_append (lines_of p) (polygon_lines ps), polygon-bytes p, length-append (rings_of p) (all_rings ps), polygons-bytes ps)
 
 -- one line for each ring
-polygons-lines : (ps : List Polygon) → length (polygonLines ps) ≡ ringCount ps
-unfolding polygonLines lines_of allRings ringsOf
+polygons-lines : (ps : List Polygon) → length (polygon_lines ps) ≡ ring_count ps
+unfolding polygon_lines lines_of all_rings rings_of
 polygons-lines [] = refl
-polygons-lines (p ∷ ps) = omega (arith, length-append (lines_of p) (polygonLines ps), length-map p.inner innerLine, length-append (ringsOf p) (allRings ps), polygons-lines ps)
+polygons-lines (p ∷ ps) = omega (arith, length-append (lines_of p) (polygon_lines ps), length-map p.inner inner_line, length-append (rings_of p) (all_rings ps), polygons-lines ps)
 
 length-begin : (t : ℕ) → length (encode (begin t)) ≡ 6
 unfolding encode
 length-begin t = length-append (digits 2 1) (digits 4 t) ∙ (rw (length_digits 2 1, length_digits 4 t))
 
-length-end : length (encode end-of-load) ≡ 2
+length_end : length (encode end_of_load) ≡ 2
 unfolding encode
-length-end = length_digits 2 4
+length_end = length_digits 2 4
 
 module _ (t : Tables) where
   -- begin, one line for each point and each ring, end of load
-  fresh-count : length (lines (freshStream t)) ≡ parts t + 2
-  unfolding loadLines
-  fresh-count =
+  fresh_count : length (lines (fresh_stream t)) ≡ parts t + 2
+  unfolding load_lines
+  fresh_count =
       omega (
         arith,
         ap length (fresh_lines t),
-        length-append (loadLines t) (encode end-of-load ∷ []),
-        length-append (map pointLine t.points) (polygonLines t.polygons),
-        length-map t.points pointLine,
+        length-append (load_lines t) (encode end_of_load ∷ []),
+        length-append (map point_line t.points) (polygon_lines t.polygons),
+        length-map t.points point_line,
         polygons-lines t.polygons,
       )
 
   -- within the bounds of tables and lines it is within that of bytes
-  fresh-short : Loadable t → length (lines (freshStream t)) ≤ 1024 → length (freshStream t) ≤ 65535
-  unfolding freshStream loadLines
-  fresh-short ok few =
+  fresh_short : Loadable t → length (lines (fresh_stream t)) ≤ 1024 → length (fresh_stream t) ≤ 65535
+  unfolding fresh_stream load_lines
+  fresh_short ok few =
       let e : length (joined []) ≡ 0 = unfold joined in refl in
       omega (
         arith,
         e,
         few,
-        fresh-count,
-        joined-append (loadLines t) (encode end-of-load ∷ []),
-        length-joined (encode (begin t.tolerance)) (map pointLine t.points ++ polygonLines t.polygons),
+        fresh_count,
+        joined_append (load_lines t) (encode end_of_load ∷ []),
+        length-joined (encode (begin t.tolerance)) (map point_line t.points ++ polygon_lines t.polygons),
         length-begin t.tolerance,
-        joined-append (map pointLine t.points) (polygonLines t.polygons),
+        joined_append (map point_line t.points) (polygon_lines t.polygons),
         points-bytes t.points,
         polygons-bytes t.polygons,
-        length-joined (encode end-of-load) [],
-        length-end,
-        ok.points-few,
-        ok.entries-few,
+        length-joined (encode end_of_load) [],
+        length_end,
+        ok.points_few,
+        ok.entries_few,
       )
 
 module _ (before : List (List ℕ)) (end : List ℕ) (since : List (List ℕ)) (s : Span before end since) where
   -- what a load brought about was brought by as many lines, and corrections leave the numbers of points and rings
-  loaded-by : parts (loadedBy before) + 2 ≤ length before + 1
-  unfolding loadCount loaded
-  loaded-by =
-      let e : loadCount (step (after nothing before) end).next ≡ parts (loadedBy before) + 2 = ap loadCount (end-takes before end since s) in
+  loaded_by_lem : parts (loaded_by before) + 2 ≤ length before + 1
+  unfolding load_count loaded
+  loaded_by_lem =
+      let e : load_count (step (after nothing before) end).next ≡ parts (loaded_by before) + 2 = ap load_count (end_takes before end since s) in
       omega (arith, step_lines (after nothing before) end, lines_after nothing before)
 
-  corrected-parts : parts (correctedBy before since) ≡ parts (loadedBy before)
-  unfolding correctedBy C.told
+  corrected-parts : parts (corrected_by before since) ≡ parts (loaded_by before)
+  unfolding corrected_by C.told
   corrected-parts =
       omega (
         arith,
-        points-told (loadedBy before) (correctionsOf before since),
-        corrections-keep ringCount rings-turn (loadedBy before) (correctionsOf before since),
+        points-told (loaded_by before) (corrections_of before since),
+        corrections_keep ring_count rings-turn (loaded_by before) (corrections_of before since),
       )
 
-  pub fresh-no-more : length (lines (freshStream (correctedBy before since))) ≤ length before + 1
-  fresh-no-more = omega (arith, fresh-count (correctedBy before since), corrected-parts, loaded-by)
+  pub fresh_no_more : length (lines (fresh_stream (corrected_by before since))) ≤ length before + 1
+  fresh_no_more = omega (arith, fresh_count (corrected_by before since), corrected-parts, loaded_by_lem)
 
-  pub fresh-bytes : length before < 1024 → length (freshStream (correctedBy before since)) ≤ 65535
-  fresh-bytes h = fresh-short (correctedBy before since) (corrected-loadable before end since s) (omega (arith, fresh-no-more))
+  pub fresh_bytes : length before < 1024 → length (fresh_stream (corrected_by before since)) ≤ 65535
+  fresh_bytes h = fresh_short (corrected_by before since) (corrected_loadable before end since s) (omega (arith, fresh_no_more))
 
 -- ---- what the entry left in the room
 

@@ -12,39 +12,39 @@ use Rattle.std.proofs.Math.ListN.{length, length-append}
 use Rattle.whole.specs.Lists.{given, first, any}
 use Rattle.whole.specs.laws.Bools.{or_left, or_right}
 use Rattle.whole.specs.All.{All, none, more}
-use Rattle.whole.specs.laws.Alls.{all-imp, any_none, none_any}
-use Rattle.frame.specs.Frame.{Frame, begin, point, polygon, end-of-load, move, turn, question, inner, across, broken, decode}
+use Rattle.whole.specs.laws.Alls.{all_imp, any_none, none_any}
+use Rattle.frame.specs.Frame.{Frame, begin, point, polygon, end_of_load, move, turn, question, inner, across, broken, decode}
 use Rattle.frame.specs.Encode.{encode}
 use Rattle.hex.specs.laws.Back.{Fits32, above, below}
-use Rattle.frame.specs.laws.RoundTrip.{decode-begin, decode-end, decode-point, decode-polygon, decode-inner, WellFormed, decode-well}
+use Rattle.frame.specs.laws.RoundTrip.{decode-begin, decode_end, decode_point, decode-polygon, decode-inner, WellFormed, decode_well}
 use Rattle.space.specs.Space.{Point}
-use Rattle.places.specs.Points.{isFar, stands}
-use Rattle.ring.specs.Polygon.{Polygon, one, ringsOf, all, entriesOf}
-use Rattle.building.specs.Tables.{Tables, Building, begun, withPoint, withPolygon, withRing, lastPolygon, withInner, entries, loaded}
+use Rattle.places.specs.Points.{is_far_of, stands}
+use Rattle.ring.specs.Polygon.{Polygon, one, rings_of, all, entries_from}
+use Rattle.building.specs.Tables.{Tables, Building, begun, with_point, with_polygon, with_ring, last_polygon, with_inner, entries, loaded}
 use Rattle.building.specs.laws.Last.{front-snoc, last_snoc}
-use Rattle.building.specs.laws.Loadable.{Apart, Loadable, RingOver, PolygonOver, apart-stands, entries-append, entries-more, entries-ring, loadable-begun, loadable-point, loadable-polygon, loadable-inner, loadable-moved, loadable-turned}
+use Rattle.building.specs.laws.Loadable.{Apart, Loadable, RingOver, PolygonOver, apart-stands, entries_append, entries_more, entries_ring, loadable_begun, loadable_point, loadable_polygon, loadable_inner, loadable_moved, loadable_turned}
 use Rattle.service.specs.declared.Refusal.TheVariants.{Accepted, Malformed, Misplaced, Beyond, Full, Absent, Taken, Late}
-use Rattle.service.specs.Service.{State, nothing, loading, holding, tables_of, buildingOf, isLoading, isHolding, isMalformed, isMisplaced, isLate, isAbsent, isBeyond, isFull, is_taken, refusal, takes, reportOf, answerTo, Outcome, outcome, step, isAccepted, accepts}
-use Rattle.service.specs.laws.Refusals.{refused-keeps, accepted-keeps, accepted-line}
+use Rattle.service.specs.Service.{State, nothing, loading, holding, tables_of, building_of, is_loading_of, is_holding_of, is_malformed, is_misplaced_of, is_late, is_absent, is_beyond_of, is_full_of, is_taken, refusal, takes, report_of, answer_to, Outcome, outcome, step, is_accepted_of, accepts}
+use Rattle.service.specs.laws.Refusals.{refused_keeps, accepted_keeps, accepted_line}
 use Rattle.service.specs.Stream.{after}
-use Rattle.service.specs.Fresh.{pointLine, innerLine, lines_of, polygonLines, loadLines, freshReport}
-use Rattle.service.specs.Span.{isCorrection}
+use Rattle.service.specs.Fresh.{point_line, inner_line, lines_of, polygon_lines, load_lines, fresh_report}
+use Rattle.service.specs.Span.{is_correction}
 
 -- ---- an accepted frame passed every test
 
 pub record Passed (st : State) (f : Frame) : Type 0 where
-  pub formed : isMalformed f ≡ false
-  pub placed : isMisplaced st f ≡ false
-  pub timely : isLate (buildingOf st) f ≡ false
-  pub known : isAbsent (tables_of st) f ≡ false
-  pub within : isBeyond f ≡ false
-  pub room : isFull (tables_of st) f ≡ false
+  pub formed : is_malformed f ≡ false
+  pub placed : is_misplaced_of st f ≡ false
+  pub timely : is_late (building_of st) f ≡ false
+  pub known : is_absent (tables_of st) f ≡ false
+  pub within : is_beyond_of f ≡ false
+  pub room : is_full_of (tables_of st) f ≡ false
   pub free : is_taken (tables_of st) f ≡ false
 
 rows : (a b c d e f g : Bool)
-    → isAccepted (first Accepted (given a Malformed ∷ given b Misplaced ∷ given c Late ∷ given d Absent ∷ given e Beyond ∷ given f Full ∷ given g Taken ∷ [])) ≡ true
+    → is_accepted_of (first Accepted (given a Malformed ∷ given b Misplaced ∷ given c Late ∷ given d Absent ∷ given e Beyond ∷ given f Full ∷ given g Taken ∷ [])) ≡ true
     → (a ≡ false) × (b ≡ false) × (c ≡ false) × (d ≡ false) × (e ≡ false) × (f ≡ false) × (g ≡ false)
-unfolding isAccepted first given
+unfolding is_accepted_of first given
 rows true b c d e f g h = absurd (false≢true h)
 rows false true c d e f g h = absurd (false≢true h)
 rows false false true d e f g h = absurd (false≢true h)
@@ -54,10 +54,10 @@ rows false false false false false true g h = absurd (false≢true h)
 rows false false false false false false true h = absurd (false≢true h)
 rows false false false false false false false h = (refl, refl, refl, refl, refl, refl, refl)
 
-pub passed : (st : State) (f : Frame) → isAccepted (refusal st f) ≡ true → Passed st f
+pub passed : (st : State) (f : Frame) → is_accepted_of (refusal st f) ≡ true → Passed st f
 unfolding refusal
 passed st f h =
-    let r = rows (isMalformed f) (isMisplaced st f) (isLate (buildingOf st) f) (isAbsent (tables_of st) f) (isBeyond f) (isFull (tables_of st) f) (is_taken (tables_of st) f) h in
+    let r = rows (is_malformed f) (is_misplaced_of st f) (is_late (building_of st) f) (is_absent (tables_of st) f) (is_beyond_of f) (is_full_of (tables_of st) f) (is_taken (tables_of st) f) h in
     record { formed = r.0; placed = r.1; timely = r.2; known = r.3; within = r.4; room = r.5; free = r.6 }
 
 pub passes : (st : State) (f : Frame) → Passed st f → refusal st f ≡ Accepted
@@ -71,65 +71,65 @@ pub data Sound : State → Type 0 where
   load : {t : Tables} → Loadable t → Sound (loading t)
   hold : {b : Building} → Loadable b.tables → Sound (holding b)
 
-pub known-ring : (n : ℕ) (ring : List ℕ) → any (leb n) ring ≡ false → All (λ (e : ℕ). e < n) ring
-known-ring n ring e = all-imp (λ i h. leb-false n i h) (any_none (leb n) ring e)
+pub known_ring : (n : ℕ) (ring : List ℕ) → any (leb n) ring ≡ false → All (λ (e : ℕ). e < n) ring
+known_ring n ring e = all_imp (λ i h. leb-false n i h) (any_none (leb n) ring e)
 
-takes-sound : (st : State) (f : Frame) → Sound st → WellFormed f → Passed st f → Sound (takes st f)
-unfolding takes tables_of buildingOf isMisplaced isLoading isHolding isAbsent isBeyond isFull is_taken loaded
-takes-sound st (begin t) s w p = load (loadable-begun t (ltb-false 1000 t p.within))
-takes-sound nothing (point x y z) s w p = absurd (true≢false p.placed)
-takes-sound (loading t) (point x y z) (load ok) w p = load (loadable-point t ok _ p.within (leb-false 512 (length t.points) p.room) p.free)
-takes-sound (holding b) (point x y z) s w p = absurd (true≢false p.placed)
-takes-sound nothing (polygon ring) s w p = absurd (true≢false p.placed)
-takes-sound (loading t) (polygon ring) (load ok) w p =
-    load (loadable-polygon t ok ring (record { few = w; known = known-ring (length t.points) ring p.known })
+takes_sound : (st : State) (f : Frame) → Sound st → WellFormed f → Passed st f → Sound (takes st f)
+unfolding takes tables_of building_of is_misplaced_of is_loading_of is_holding_of is_absent is_beyond_of is_full_of is_taken loaded
+takes_sound st (begin t) s w p = load (loadable_begun t (ltb-false 1000 t p.within))
+takes_sound nothing (point x y z) s w p = absurd (true≢false p.placed)
+takes_sound (loading t) (point x y z) (load ok) w p = load (loadable_point t ok _ p.within (leb-false 512 (length t.points) p.room) p.free)
+takes_sound (holding b) (point x y z) s w p = absurd (true≢false p.placed)
+takes_sound nothing (polygon ring) s w p = absurd (true≢false p.placed)
+takes_sound (loading t) (polygon ring) (load ok) w p =
+    load (loadable_polygon t ok ring (record { few = w; known = known_ring (length t.points) ring p.known })
     (leb-false 256 (length t.polygons) (or_left (leb 256 (length t.polygons)) (ltb 1024 (entries t.polygons + length ring)) p.room))
     (ltb-false 1024 (entries t.polygons + length ring) (or_right (leb 256 (length t.polygons)) (ltb 1024 (entries t.polygons + length ring)) p.room)))
-takes-sound (holding b) (polygon ring) s w p = absurd (true≢false p.placed)
-takes-sound nothing end-of-load s w p = absurd (true≢false p.placed)
-takes-sound (loading t) end-of-load (load ok) w p = hold {b = loaded t} ok
-takes-sound (holding b) end-of-load s w p = absurd (true≢false p.placed)
-takes-sound nothing (move number n x y z) s w p = absurd (true≢false p.placed)
-takes-sound (loading t) (move number n x y z) s w p = absurd (true≢false p.placed)
-takes-sound (holding b) (move number n x y z) (hold ok) w p = hold (loadable-moved b ok number n _ p.within p.free)
-takes-sound nothing (turn number n) s w p = absurd (true≢false p.placed)
-takes-sound (loading t) (turn number n) s w p = absurd (true≢false p.placed)
-takes-sound (holding b) (turn number n) (hold ok) w p = hold (loadable-turned b ok number n)
-takes-sound st (question n) s w p = s
-takes-sound nothing (inner ring) s w p = absurd (true≢false p.placed)
-takes-sound (loading t) (inner ring) (load ok) w p =
+takes_sound (holding b) (polygon ring) s w p = absurd (true≢false p.placed)
+takes_sound nothing end_of_load s w p = absurd (true≢false p.placed)
+takes_sound (loading t) end_of_load (load ok) w p = hold {b = loaded t} ok
+takes_sound (holding b) end_of_load s w p = absurd (true≢false p.placed)
+takes_sound nothing (move number n x y z) s w p = absurd (true≢false p.placed)
+takes_sound (loading t) (move number n x y z) s w p = absurd (true≢false p.placed)
+takes_sound (holding b) (move number n x y z) (hold ok) w p = hold (loadable_moved b ok number n _ p.within p.free)
+takes_sound nothing (turn number n) s w p = absurd (true≢false p.placed)
+takes_sound (loading t) (turn number n) s w p = absurd (true≢false p.placed)
+takes_sound (holding b) (turn number n) (hold ok) w p = hold (loadable_turned b ok number n)
+takes_sound st (question n) s w p = s
+takes_sound nothing (inner ring) s w p = absurd (true≢false p.placed)
+takes_sound (loading t) (inner ring) (load ok) w p =
     let some : length t.polygons ≡ 0 → ⊥ = eqb-false (length t.polygons) 0 p.placed in
-    let full : Bool = leb 8 (length (lastPolygon t).inner) in
+    let full : Bool = leb 8 (length (last_polygon t).inner) in
     let over : Bool = ltb 1024 (entries t.polygons + length ring) in
-    load (loadable-inner t ok ring (record { few = w; known = known-ring (length t.points) ring p.known }) (omega arith)
-    (leb-false 8 (length (lastPolygon t).inner) (or_left full over p.room))
+    load (loadable_inner t ok ring (record { few = w; known = known_ring (length t.points) ring p.known }) (omega arith)
+    (leb-false 8 (length (last_polygon t).inner) (or_left full over p.room))
     (ltb-false 1024 (entries t.polygons + length ring) (or_right full over p.room)))
-takes-sound (holding b) (inner ring) s w p = absurd (true≢false p.placed)
-takes-sound st (across m n) s w p = s
-takes-sound st broken s w p = s
+takes_sound (holding b) (inner ring) s w p = absurd (true≢false p.placed)
+takes_sound st (across m n) s w p = s
+takes_sound st broken s w p = s
 
 -- every state that lines bring about
-pub step-sound : (st : State) (l : List ℕ) → Sound st → Sound (step st l).next
-step-sound st l s = go (accepts st l) refl
+pub step_sound : (st : State) (l : List ℕ) → Sound st → Sound (step st l).next
+step_sound st l s = go (accepts st l) refl
   where
     go : (b : Bool) → accepts st l ≡ b → Sound (step st l).next
-    go true e = rw (accepted-keeps st l e) (takes-sound st (decode l) s (decode-well l) (passed st (decode l) (unfold accepts in e)))
-    go false e = rw (refused-keeps st l e) s
+    go true e = rw (accepted_keeps st l e) (takes_sound st (decode l) s (decode_well l) (passed st (decode l) (unfold accepts in e)))
+    go false e = rw (refused_keeps st l e) s
 
-pub after-sound : (st : State) (ls : List (List ℕ)) → Sound st → Sound (after st ls)
+pub after_sound : (st : State) (ls : List (List ℕ)) → Sound st → Sound (after st ls)
 unfolding after
-after-sound st [] s = s
-after-sound st (l ∷ ls) s = after-sound (step st l).next ls (step-sound st l s)
+after_sound st [] s = s
+after_sound st (l ∷ ls) s = after_sound (step st l).next ls (step_sound st l s)
 
 -- ---- the lines of tables
 
-pub after-append : (st : State) (ls ms : List (List ℕ)) → after st (ls ++ ms) ≡ after (after st ls) ms
+pub after_append : (st : State) (ls ms : List (List ℕ)) → after st (ls ++ ms) ≡ after (after st ls) ms
 unfolding after
-after-append st [] ms = refl
-after-append st (l ∷ ls) ms = after-append (step st l).next ls ms
+after_append st [] ms = refl
+after_append st (l ∷ ls) ms = after_append (step st l).next ls ms
 
 -- a line that encodes a frame which passes is taken
-step-encode : (st : State) (f : Frame) → decode (encode f) ≡ f → Passed st f → step st (encode f) ≡ record { next = takes st f; answer = answerTo f (takes st f) }
+step-encode : (st : State) (f : Frame) → decode (encode f) ≡ f → Passed st f → step st (encode f) ≡ record { next = takes st f; answer = answer_to f (takes st f) }
 unfolding step outcome
 step-encode st f d p = rw (d, passes st f p)
 
@@ -140,53 +140,53 @@ fits-near : (c : ℤ) → ltb 100000 (nat_abs c) ≡ false → Fits32 c
 fits-near (pos n) e = above {n = n} (omega (arith, ltb-false 100000 n e))
 fits-near (negsuc n) e = below {n = n} (omega (arith, ltb-false 100000 (suc n) e))
 
-decode-pointLine : (p : Point) → isFar p ≡ false → decode (pointLine p) ≡ point p.x p.y p.z
-unfolding pointLine isFar
-decode-pointLine p e =
+decode-point_line : (p : Point) → is_far_of p ≡ false → decode (point_line p) ≡ point p.x p.y p.z
+unfolding point_line is_far_of
+decode-point_line p e =
     let a : Bool = ltb 100000 (nat_abs p.x) in
     let b : Bool = ltb 100000 (nat_abs p.y) in
     let d : Bool = ltb 100000 (nat_abs p.z) in
     let l : (a || b) ≡ false = or_left (a || b) d e in
-    decode-point p.x p.y p.z (fits-near p.x (or_left a b l)) (fits-near p.y (or_right a b l)) (fits-near p.z (or_right (a || b) d e))
+    decode_point p.x p.y p.z (fits-near p.x (or_left a b l)) (fits-near p.y (or_right a b l)) (fits-near p.z (or_right (a || b) d e))
 
 module _ (tolerance : ℕ) where
   -- tables in the course of a load
   abbrev partly : List Point → List Polygon → State
   partly ps qs = loading (record { tolerance = tolerance; points = ps; polygons = qs })
 
-  point-passes : (done : List Point) (p : Point) → isFar p ≡ false → length done < 512 → stands p done ≡ false → Passed (partly done []) (point p.x p.y p.z)
-  unfolding isMalformed isMisplaced isLoading isLate isAbsent isBeyond isFull is_taken tables_of
-  point-passes done p far few new =
+  point_passes : (done : List Point) (p : Point) → is_far_of p ≡ false → length done < 512 → stands p done ≡ false → Passed (partly done []) (point p.x p.y p.z)
+  unfolding is_malformed is_misplaced_of is_loading_of is_late is_absent is_beyond_of is_full_of is_taken tables_of
+  point_passes done p far few new =
       record { formed = refl; placed = refl; timely = refl; known = refl; within = far; room = lt-leb 512 (length done) few; free = new }
 
-  point-step : (done : List Point) (p : Point) → isFar p ≡ false → length done < 512 → stands p done ≡ false → (step (partly done []) (pointLine p)).next ≡ partly (done ++ (p ∷ [])) []
-  unfolding pointLine takes tables_of withPoint
-  point-step done p far few new = next-encode (partly done []) (point p.x p.y p.z) (decode-pointLine p far) (point-passes done p far few new)
+  point_step : (done : List Point) (p : Point) → is_far_of p ≡ false → length done < 512 → stands p done ≡ false → (step (partly done []) (point_line p)).next ≡ partly (done ++ (p ∷ [])) []
+  unfolding point_line takes tables_of with_point
+  point_step done p far few new = next-encode (partly done []) (point p.x p.y p.z) (decode-point_line p far) (point_passes done p far few new)
 
-  load-points : (done rest : List Point) → All (λ (p : Point). isFar p ≡ false) rest → Apart (done ++ rest) → length (done ++ rest) ≤ 512
-      → after (partly done []) (map pointLine rest) ≡ partly (done ++ rest) []
+  load_points : (done rest : List Point) → All (λ (p : Point). is_far_of p ≡ false) rest → Apart (done ++ rest) → length (done ++ rest) ≤ 512
+      → after (partly done []) (map point_line rest) ≡ partly (done ++ rest) []
   unfolding after
-  load-points done [] none a h = rw append-nil
-  load-points done (p ∷ rest) (more far near) a h =
+  load_points done [] none a h = rw append-nil
+  load_points done (p ∷ rest) (more far near) a h =
       let m : length (done ++ p ∷ rest) ≡ length done + suc (length rest) = length-append done (p ∷ rest) in
       let few : length done < 512 = omega arith in
       let e : done ++ (p ∷ []) ++ rest ≡ done ++ p ∷ rest = append_assoc done (p ∷ []) rest in
-      let s : (step (partly done []) (pointLine p)).next ≡ partly (done ++ (p ∷ [])) [] = point-step done p far few (apart-stands done p rest a) in
-      let ih : after (partly (done ++ (p ∷ [])) []) (map pointLine rest) ≡ partly (done ++ (p ∷ []) ++ rest) [] = load-points (done ++ (p ∷ [])) rest near (rw e a) (rw e h) in
-      ap (λ (st : State). after st (map pointLine rest)) s ∙ ih ∙ ap (λ (ps : List Point). partly ps []) e
+      let s : (step (partly done []) (point_line p)).next ≡ partly (done ++ (p ∷ [])) [] = point_step done p far few (apart-stands done p rest a) in
+      let ih : after (partly (done ++ (p ∷ [])) []) (map point_line rest) ≡ partly (done ++ (p ∷ []) ++ rest) [] = load_points (done ++ (p ∷ [])) rest near (rw e a) (rw e h) in
+      ap (λ (st : State). after st (map point_line rest)) s ∙ ih ∙ ap (λ (ps : List Point). partly ps []) e
 
-  known-any : (n : ℕ) (ring : List ℕ) → All (λ (e : ℕ). e < n) ring → any (leb n) ring ≡ false
-  known-any n ring a = none_any (leb n) ring (all-imp (λ e h. lt-leb n e h) a)
+  known_any : (n : ℕ) (ring : List ℕ) → All (λ (e : ℕ). e < n) ring → any (leb n) ring ≡ false
+  known_any n ring a = none_any (leb n) ring (all_imp (λ e h. lt-leb n e h) a)
 
   module _ (ps : List Point) (few-points : length ps ≤ 512) where
     polygon-passes : (done : List Polygon) (ring : List ℕ) → RingOver (length ps) ring → length done < 256 → entries done + length ring ≤ 1024 → Passed (partly ps done) (polygon ring)
-    unfolding isMalformed isMisplaced isLoading isLate isAbsent isBeyond isFull is_taken tables_of
+    unfolding is_malformed is_misplaced_of is_loading_of is_late is_absent is_beyond_of is_full_of is_taken tables_of
     polygon-passes done ring r few room =
         record {
           formed = refl;
           placed = refl;
           timely = refl;
-          known = known-any (length ps) ring r.known;
+          known = known_any (length ps) ring r.known;
           within = refl;
           room = rw (lt-leb 256 (length done) few, le-ltb 1024 (entries done + length ring) room);
           free = refl;
@@ -194,9 +194,9 @@ module _ (tolerance : ℕ) where
 
     polygon-step : (done : List Polygon) (ring : List ℕ) → RingOver (length ps) ring → length done < 256 → entries done + length ring ≤ 1024
         → (step (partly ps done) (encode (polygon ring))).next ≡ partly ps (done ++ (one ring ∷ []))
-    unfolding takes tables_of withPolygon
+    unfolding takes tables_of with_polygon
     polygon-step done ring r few room =
-        next-encode (partly ps done) (polygon ring) (decode-polygon ring r.few (all-imp (λ e h. omega arith) r.known)) (polygon-passes done ring r few room)
+        next-encode (partly ps done) (polygon ring) (decode-polygon ring r.few (all_imp (λ e h. omega arith) r.known)) (polygon-passes done ring r few room)
 
     module _ (done : List Polygon) where
       -- a polygon in the course of a load, with some of its inner rings
@@ -204,116 +204,116 @@ module _ (tolerance : ℕ) where
       with_last p = partly ps (done ++ (p ∷ []))
 
       inner-passes : (p : Polygon) (ring : List ℕ) → RingOver (length ps) ring → length p.inner < 8 → entries (done ++ (p ∷ [])) + length ring ≤ 1024 → Passed (with_last p) (inner ring)
-      unfolding isMalformed isMisplaced isLoading isLate isAbsent isBeyond isFull is_taken tables_of lastPolygon
+      unfolding is_malformed is_misplaced_of is_loading_of is_late is_absent is_beyond_of is_full_of is_taken tables_of last_polygon
       inner-passes p ring r few room =
           let some : length (done ++ (p ∷ [])) ≡ length done + 1 = length-append done (p ∷ []) in
           record {
             formed = refl;
             placed = ne_eqb (length (done ++ (p ∷ []))) 0 (λ e. omega arith);
             timely = refl;
-            known = known-any (length ps) ring r.known;
+            known = known_any (length ps) ring r.known;
             within = refl;
             room = rw (last_snoc (one []) done p, lt-leb 8 (length p.inner) few, le-ltb 1024 (entries (done ++ (p ∷ [])) + length ring) room);
             free = refl;
           }
 
       inner-step : (p : Polygon) (ring : List ℕ) → RingOver (length ps) ring → length p.inner < 8 → entries (done ++ (p ∷ [])) + length ring ≤ 1024
-          → (step (with_last p) (innerLine ring)).next ≡ with_last (withRing ring p)
-      unfolding innerLine takes tables_of withInner lastPolygon
+          → (step (with_last p) (inner_line ring)).next ≡ with_last (with_ring ring p)
+      unfolding inner_line takes tables_of with_inner last_polygon
       inner-step p ring r few room =
-          next-encode (with_last p) (inner ring) (decode-inner ring r.few (all-imp (λ e h. omega arith) r.known)) (inner-passes p ring r few room)
-          ∙ (λ i. partly ps (front-snoc done p i ++ (withRing ring (last_snoc (one []) done p i) ∷ [])))
+          next-encode (with_last p) (inner ring) (decode-inner ring r.few (all_imp (λ e h. omega arith) r.known)) (inner-passes p ring r few room)
+          ∙ (λ i. partly ps (front-snoc done p i ++ (with_ring ring (last_snoc (one []) done p i) ∷ [])))
 
       -- the inner rings that are still to come
       load-inner : (p : Polygon) (rest : List (List ℕ)) → All (RingOver (length ps)) rest → length p.inner + length rest ≤ 8
           → entries (done ++ (p ∷ [])) + length (all (λ r. r) rest) ≤ 1024
-          → after (with_last p) (map innerLine rest) ≡ with_last (record { outer = p.outer; inner = p.inner ++ rest })
-      unfolding after all withRing
+          → after (with_last p) (map inner_line rest) ≡ with_last (record { outer = p.outer; inner = p.inner ++ rest })
+      unfolding after all with_ring
       load-inner p [] none h g = ap (λ (rs : List (List ℕ)). with_last (record { outer = p.outer; inner = rs })) (sym (append-nil p.inner))
       load-inner p (ring ∷ rest) (more r rs) h g =
           let n : length (ring ++ all (λ r. r) rest) ≡ length ring + length (all (λ r. r) rest) = length-append ring (all (λ r. r) rest) in
           let m : length (p.inner ++ (ring ∷ [])) ≡ length p.inner + 1 = length-append p.inner (ring ∷ []) in
-          let k : entries (done ++ (withRing ring p ∷ [])) ≡ entries (done ++ (p ∷ [])) + length ring = entries-ring done p ring in
+          let k : entries (done ++ (with_ring ring p ∷ [])) ≡ entries (done ++ (p ∷ [])) + length ring = entries_ring done p ring in
           let few : length p.inner < 8 = omega arith in
           let room : entries (done ++ (p ∷ [])) + length ring ≤ 1024 = omega arith in
-          let ih : after (with_last (withRing ring p)) (map innerLine rest) ≡ with_last (record { outer = p.outer; inner = (p.inner ++ (ring ∷ [])) ++ rest }) = load-inner (withRing ring p) rest rs (omega arith) (omega arith) in
-          ap (λ (st : State). after st (map innerLine rest)) (inner-step p ring r few room)
+          let ih : after (with_last (with_ring ring p)) (map inner_line rest) ≡ with_last (record { outer = p.outer; inner = (p.inner ++ (ring ∷ [])) ++ rest }) = load-inner (with_ring ring p) rest rs (omega arith) (omega arith) in
+          ap (λ (st : State). after st (map inner_line rest)) (inner-step p ring r few room)
           ∙ ih
           ∙ ap (λ (qs : List (List ℕ)). with_last (record { outer = p.outer; inner = qs })) (append_assoc p.inner (ring ∷ []) rest)
 
       -- a polygon is brought about by its lines
-      load-polygon : (p : Polygon) → All (RingOver (length ps)) (ringsOf p) → length p.inner ≤ 8 → length done < 256 → entries done + length (entriesOf p) ≤ 1024 → after (partly ps done) (lines_of p) ≡ with_last p
-      unfolding lines_of after entries entriesOf ringsOf all one
+      load-polygon : (p : Polygon) → All (RingOver (length ps)) (rings_of p) → length p.inner ≤ 8 → length done < 256 → entries done + length (entries_from p) ≤ 1024 → after (partly ps done) (lines_of p) ≡ with_last p
+      unfolding lines_of after entries entries_from rings_of all one
       load-polygon p (more r rs) eight few room =
           let n : length (p.outer ++ all (λ r. r) p.inner) ≡ length p.outer + length (all (λ r. r) p.inner) = length-append p.outer (all (λ r. r) p.inner) in
-          let m : entries (done ++ (one p.outer ∷ [])) ≡ entries done + length p.outer = entries-more done p.outer in
-          ap (λ (st : State). after st (map innerLine p.inner)) (polygon-step done p.outer r few (omega arith)) ∙ load-inner (one p.outer) p.inner rs (omega arith) (omega arith)
+          let m : entries (done ++ (one p.outer ∷ [])) ≡ entries done + length p.outer = entries_more done p.outer in
+          ap (λ (st : State). after st (map inner_line p.inner)) (polygon-step done p.outer r few (omega arith)) ∙ load-inner (one p.outer) p.inner rs (omega arith) (omega arith)
 
     load-polygons : (done rest : List Polygon) → All (PolygonOver (length ps)) rest → length (done ++ rest) ≤ 256 → entries (done ++ rest) ≤ 1024
-        → after (partly ps done) (polygonLines rest) ≡ partly ps (done ++ rest)
-    unfolding after polygonLines entries
+        → after (partly ps done) (polygon_lines rest) ≡ partly ps (done ++ rest)
+    unfolding after polygon_lines entries
     load-polygons done [] none h g = rw append-nil
     load-polygons done (p ∷ rest) (more r all) h g =
         let m : length (done ++ p ∷ rest) ≡ length done + suc (length rest) = length-append done (p ∷ rest) in
-        let n : entries (done ++ p ∷ rest) ≡ entries done + (length (entriesOf p) + entries rest) = entries-append done (p ∷ rest) in
+        let n : entries (done ++ p ∷ rest) ≡ entries done + (length (entries_from p) + entries rest) = entries_append done (p ∷ rest) in
         let e : done ++ (p ∷ []) ++ rest ≡ done ++ p ∷ rest = append_assoc done (p ∷ []) rest in
         let s : after (partly ps done) (lines_of p) ≡ partly ps (done ++ (p ∷ [])) = load-polygon done p r.rings r.few (omega arith) (omega arith) in
-        let ih : after (partly ps (done ++ (p ∷ []))) (polygonLines rest) ≡ partly ps (done ++ (p ∷ []) ++ rest) = load-polygons (done ++ (p ∷ [])) rest all (rw e h) (rw e g) in
-        after-append (partly ps done) (lines_of p) (polygonLines rest)
-        ∙ ap (λ (st : State). after st (polygonLines rest)) s
+        let ih : after (partly ps (done ++ (p ∷ []))) (polygon_lines rest) ≡ partly ps (done ++ (p ∷ []) ++ rest) = load-polygons (done ++ (p ∷ [])) rest all (rw e h) (rw e g) in
+        after_append (partly ps done) (lines_of p) (polygon_lines rest)
+        ∙ ap (λ (st : State). after st (polygon_lines rest)) s
         ∙ ih
         ∙ ap (λ (qs : List Polygon). partly ps qs) e
 
 -- begin is accepted in any state
-begin-passes : (st : State) (t : ℕ) → t ≤ 1000 → Passed st (begin t)
-unfolding isMalformed isMisplaced isLate isAbsent isBeyond isFull is_taken
-begin-passes st t h = record { formed = refl; placed = refl; timely = refl; known = refl; within = le-ltb 1000 t h; room = refl; free = refl }
+begin_passes : (st : State) (t : ℕ) → t ≤ 1000 → Passed st (begin t)
+unfolding is_malformed is_misplaced_of is_late is_absent is_beyond_of is_full_of is_taken
+begin_passes st t h = record { formed = refl; placed = refl; timely = refl; known = refl; within = le-ltb 1000 t h; room = refl; free = refl }
 
 begin-step : (st : State) (t : ℕ) → t ≤ 1000 → (step st (encode (begin t))).next ≡ loading (begun t)
 unfolding takes
-begin-step st t h = next-encode st (begin t) (decode-begin t (omega arith)) (begin-passes st t h)
+begin-step st t h = next-encode st (begin t) (decode-begin t (omega arith)) (begin_passes st t h)
 
 -- the lines of loadable tables, in any state, leave a load of just these tables
-pub load-brings : (st : State) (t : Tables) → Loadable t → after st (loadLines t) ≡ loading t
-unfolding loadLines after begun
-load-brings st t ok =
-    ap (λ (s : State). after s (map pointLine t.points ++ polygonLines t.polygons)) (begin-step st t.tolerance ok.tolerant)
-    ∙ after-append (partly t.tolerance [] []) (map pointLine t.points) (polygonLines t.polygons)
-    ∙ ap (λ (s : State). after s (polygonLines t.polygons)) (load-points t.tolerance [] t.points ok.near ok.apart ok.points-few)
-    ∙ load-polygons t.tolerance t.points ok.points-few [] t.polygons ok.each ok.polygons-few ok.entries-few
+pub load_brings : (st : State) (t : Tables) → Loadable t → after st (load_lines t) ≡ loading t
+unfolding load_lines after begun
+load_brings st t ok =
+    ap (λ (s : State). after s (map point_line t.points ++ polygon_lines t.polygons)) (begin-step st t.tolerance ok.tolerant)
+    ∙ after_append (partly t.tolerance [] []) (map point_line t.points) (polygon_lines t.polygons)
+    ∙ ap (λ (s : State). after s (polygon_lines t.polygons)) (load_points t.tolerance [] t.points ok.near ok.apart ok.points_few)
+    ∙ load-polygons t.tolerance t.points ok.points_few [] t.polygons ok.each ok.polygons_few ok.entries_few
 
 -- end of load of it answers its report and holds it
-pub end-holds : (t : Tables) → step (loading t) (encode end-of-load) ≡ record { next = holding (loaded t); answer = reportOf t }
-unfolding takes tables_of answerTo loaded isMalformed isMisplaced isLoading isLate isAbsent isBeyond isFull is_taken
-end-holds t =
-    step-encode (loading t) end-of-load decode-end (record { formed = refl; placed = refl; timely = refl; known = refl; within = refl; room = refl; free = refl })
+pub end_holds : (t : Tables) → step (loading t) (encode end_of_load) ≡ record { next = holding (loaded t); answer = report_of t }
+unfolding takes tables_of answer_to loaded is_malformed is_misplaced_of is_loading_of is_late is_absent is_beyond_of is_full_of is_taken
+end_holds t =
+    step-encode (loading t) end_of_load decode_end (record { formed = refl; placed = refl; timely = refl; known = refl; within = refl; room = refl; free = refl })
 
-pub fresh-is : (t : Tables) → Loadable t → freshReport t ≡ reportOf t
-unfolding freshReport
-fresh-is t ok = ap (λ (s : State). (step s (encode end-of-load)).answer) (load-brings nothing t ok) ∙ ap (λ (o : Outcome). o.answer) (end-holds t)
+pub fresh_is : (t : Tables) → Loadable t → fresh_report t ≡ report_of t
+unfolding fresh_report
+fresh_is t ok = ap (λ (s : State). (step s (encode end_of_load)).answer) (load_brings nothing t ok) ∙ ap (λ (o : Outcome). o.answer) (end_holds t)
 
 -- ---- corrections and questions of what is held
 
-pub held-loadable : {b : Building} → Sound (holding b) → Loadable b.tables
-held-loadable (hold ok) = ok
+pub held_loadable : {b : Building} → Sound (holding b) → Loadable b.tables
+held_loadable (hold ok) = ok
 
-reports : (st : State) (f : Frame) → isCorrection f ≡ true → Sound (takes st f) → answerTo f (takes st f) ≡ freshReport (tables_of (takes st f))
-unfolding isCorrection takes answerTo tables_of
+reports : (st : State) (f : Frame) → is_correction f ≡ true → Sound (takes st f) → answer_to f (takes st f) ≡ fresh_report (tables_of (takes st f))
+unfolding is_correction takes answer_to tables_of
 reports st (begin t) e s = absurd (false≢true e)
 reports st (point x y z) e s = absurd (false≢true e)
 reports st (polygon ring) e s = absurd (false≢true e)
-reports st end-of-load e s = absurd (false≢true e)
-reports st (move number n x y z) e s = sym (fresh-is _ (held-loadable s))
-reports st (turn number n) e s = sym (fresh-is _ (held-loadable s))
+reports st end_of_load e s = absurd (false≢true e)
+reports st (move number n x y z) e s = sym (fresh_is _ (held_loadable s))
+reports st (turn number n) e s = sym (fresh_is _ (held_loadable s))
 reports st (question n) e s = absurd (false≢true e)
 reports st (inner ring) e s = absurd (false≢true e)
 reports st (across m n) e s = absurd (false≢true e)
 reports st broken e s = absurd (false≢true e)
 
 -- an accepted correction answers what a fresh load of the tables after it answers at its end
-pub correction-reports : (st : State) (l : List ℕ) → Sound st → accepts st l ≡ true → isCorrection (decode l) ≡ true
-    → (step st l).answer ≡ freshReport (tables_of (step st l).next)
+pub correction_reports : (st : State) (l : List ℕ) → Sound st → accepts st l ≡ true → is_correction (decode l) ≡ true
+    → (step st l).answer ≡ fresh_report (tables_of (step st l).next)
 unfolding accepts
-correction-reports st l s e c =
-    let p : Sound (takes st (decode l)) = takes-sound st (decode l) s (decode-well l) (passed st (decode l) e) in
-    rw (accepted-line st l e) (reports st (decode l) c p)
+correction_reports st l s e c =
+    let p : Sound (takes st (decode l)) = takes_sound st (decode l) s (decode_well l) (passed st (decode l) e) in
+    rw (accepted_line st l e) (reports st (decode l) c p)

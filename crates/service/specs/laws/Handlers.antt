@@ -2,54 +2,54 @@
 use Rattle.std.specs.Prelude.{ℕ, ◌+◌, ◌≡◌, ◌||◌, List, [], ◌∷◌, eqb, leb, ltb, length, ℤ}
 use Rattle.std.proofs.Math.Path.{refl}
 use Rattle.whole.specs.Lists.{given, first, any}
-use Rattle.frame.specs.Frame.{begin, point, polygon, end-of-load, move, turn, question, inner, across, broken}
-use Rattle.places.specs.Points.{isFar, stands, standsElse}
-use Rattle.building.specs.Tables.{Tables, Building, lastPolygon, entries}
+use Rattle.frame.specs.Frame.{begin, point, polygon, end_of_load, move, turn, question, inner, across, broken}
+use Rattle.places.specs.Points.{is_far_of, stands, stands_else_of}
+use Rattle.building.specs.Tables.{Tables, Building, last_polygon, entries}
 use Rattle.service.specs.declared.Refusal.TheVariants.{Accepted, Malformed, Misplaced, Beyond, Full, Absent, Taken, Late}
-use Rattle.service.specs.Service.{State, loading, holding, service-computes, refusal}
+use Rattle.service.specs.Service.{State, loading, holding, service_computes, refusal}
 
-pub of-broken : (st : State) → refusal st broken ≡ Malformed
-unfolding service-computes first given
-of-broken st = refl
+pub of_broken : (st : State) → refusal st broken ≡ Malformed
+unfolding service_computes first given
+of_broken st = refl
 
 pub of-begin : (st : State) (t : ℕ) → refusal st (begin t) ≡ first Accepted (given (ltb 1000 t) Beyond ∷ [])
-unfolding service-computes first given
+unfolding service_computes first given
 of-begin st t = refl
 
 module _ (t : Tables) where
-  pub of-point : (x y z : ℤ) → refusal (loading t) (point x y z)
-      ≡ first Accepted (given (isFar (record { x = x; y = y; z = z })) Beyond ∷ given (leb 512 (length t.points)) Full ∷ given (stands (record { x = x; y = y; z = z }) t.points) Taken ∷ [])
-  unfolding service-computes first given
-  of-point x y z = refl
+  pub of_point_lem : (x y z : ℤ) → refusal (loading t) (point x y z)
+      ≡ first Accepted (given (is_far_of (record { x = x; y = y; z = z })) Beyond ∷ given (leb 512 (length t.points)) Full ∷ given (stands (record { x = x; y = y; z = z }) t.points) Taken ∷ [])
+  unfolding service_computes first given
+  of_point_lem x y z = refl
 
-  pub of-polygon : (ring : List ℕ) → refusal (loading t) (polygon ring)
+  pub of_polygon_lem : (ring : List ℕ) → refusal (loading t) (polygon ring)
       ≡ first Accepted (given (any (leb (length t.points)) ring) Absent ∷ given (leb 256 (length t.polygons) || ltb 1024 (entries t.polygons + length ring)) Full ∷ [])
-  unfolding service-computes first given
-  of-polygon ring = refl
+  unfolding service_computes first given
+  of_polygon_lem ring = refl
 
   pub of_inner : (ring : List ℕ) → refusal (loading t) (inner ring)
-      ≡ first Accepted (given (eqb (length t.polygons) 0) Misplaced ∷ given (any (leb (length t.points)) ring) Absent ∷ given (leb 8 (length (lastPolygon t).inner) || ltb 1024 (entries t.polygons + length ring)) Full ∷ [])
-  unfolding service-computes first given
+      ≡ first Accepted (given (eqb (length t.polygons) 0) Misplaced ∷ given (any (leb (length t.points)) ring) Absent ∷ given (leb 8 (length (last_polygon t).inner) || ltb 1024 (entries t.polygons + length ring)) Full ∷ [])
+  unfolding service_computes first given
   of_inner ring = refl
 
-  pub of_end : refusal (loading t) end-of-load ≡ Accepted
-  unfolding service-computes first given
+  pub of_end : refusal (loading t) end_of_load ≡ Accepted
+  unfolding service_computes first given
   of_end = refl
 
 module _ (b : Building) where
-  pub of-move : (number n : ℕ) (x y z : ℤ) → refusal (holding b) (move number n x y z)
-      ≡ first Accepted (given (leb number b.last) Late ∷ given (leb (length b.tables.points) n) Absent ∷ given (isFar (record { x = x; y = y; z = z })) Beyond ∷ given (standsElse n (record { x = x; y = y; z = z }) b.tables.points) Taken ∷ [])
-  unfolding service-computes first given
-  of-move number n x y z = refl
+  pub of_move_lem : (number n : ℕ) (x y z : ℤ) → refusal (holding b) (move number n x y z)
+      ≡ first Accepted (given (leb number b.last) Late ∷ given (leb (length b.tables.points) n) Absent ∷ given (is_far_of (record { x = x; y = y; z = z })) Beyond ∷ given (stands_else_of n (record { x = x; y = y; z = z }) b.tables.points) Taken ∷ [])
+  unfolding service_computes first given
+  of_move_lem number n x y z = refl
 
-  pub of-turn : (number n : ℕ) → refusal (holding b) (turn number n) ≡ first Accepted (given (leb number b.last) Late ∷ given (leb (length b.tables.polygons) n) Absent ∷ [])
-  unfolding service-computes first given
-  of-turn number n = refl
+  pub of_turn_lem : (number n : ℕ) → refusal (holding b) (turn number n) ≡ first Accepted (given (leb number b.last) Late ∷ given (leb (length b.tables.polygons) n) Absent ∷ [])
+  unfolding service_computes first given
+  of_turn_lem number n = refl
 
-  pub of-question : (n : ℕ) → refusal (holding b) (question n) ≡ first Accepted (given (leb (length b.tables.polygons) n) Absent ∷ [])
-  unfolding service-computes first given
-  of-question n = refl
+  pub of_question_lem : (n : ℕ) → refusal (holding b) (question n) ≡ first Accepted (given (leb (length b.tables.polygons) n) Absent ∷ [])
+  unfolding service_computes first given
+  of_question_lem n = refl
 
-  pub of-across : (m n : ℕ) → refusal (holding b) (across m n) ≡ first Accepted (given (leb (length b.tables.points) m || leb (length b.tables.points) n || eqb m n) Absent ∷ [])
-  unfolding service-computes first given
-  of-across m n = refl
+  pub of_across_lem : (m n : ℕ) → refusal (holding b) (across m n) ≡ first Accepted (given (leb (length b.tables.points) m || leb (length b.tables.points) n || eqb m n) Absent ∷ [])
+  unfolding service_computes first given
+  of_across_lem m n = refl

@@ -7,12 +7,12 @@ use Rattle.frame.specs.Frame.{Frame, decode}
 use Rattle.answer.specs.Answer.{plain}
 use Rattle.service.specs.declared.Refusal.{Refusal}
 use Rattle.service.specs.declared.Refusal.TheVariants.{Accepted, Malformed, Misplaced, Beyond, Full, Absent, Taken, Late}
-use Rattle.service.specs.Service.{State, nothing, refusalNumber, refusal, Outcome, outcome, step, isAccepted, accepts, takes, answerTo}
+use Rattle.service.specs.Service.{State, nothing, refusal_number_of, refusal, Outcome, outcome, step, is_accepted_of, accepts, takes, answer_to}
 use Rattle.service.specs.Stream.{run, answers, after}
-use Rattle.service.specs.Strike.{struck, acceptedAnswers}
+use Rattle.service.specs.Strike.{struck, accepted_answers}
 
-pub refused-outcome : (r : Refusal) (st : State) (f : Frame) → isAccepted r ≡ false → outcome r st f ≡ record { next = st; answer = plain (refusalNumber r) }
-unfolding isAccepted outcome
+pub refused-outcome : (r : Refusal) (st : State) (f : Frame) → is_accepted_of r ≡ false → outcome r st f ≡ record { next = st; answer = plain (refusal_number_of r) }
+unfolding is_accepted_of outcome
 refused-outcome Accepted st f e = absurd (true≢false e)
 refused-outcome Malformed st f e = refl
 refused-outcome Misplaced st f e = refl
@@ -23,67 +23,67 @@ refused-outcome Taken st f e = refl
 refused-outcome Late st f e = refl
 
 -- "Refused: the two digits below, and nothing held changes."
-pub refused-line : (st : State) (l : List ℕ) → accepts st l ≡ false → step st l ≡ record { next = st; answer = plain (refusalNumber (refusal st (decode l))) }
+pub refused-line : (st : State) (l : List ℕ) → accepts st l ≡ false → step st l ≡ record { next = st; answer = plain (refusal_number_of (refusal st (decode l))) }
 unfolding accepts step
 refused-line st l e = refused-outcome (refusal st (decode l)) st (decode l) e
 
-pub refused-keeps : (st : State) (l : List ℕ) → accepts st l ≡ false → (step st l).next ≡ st
-refused-keeps st l e = ap (λ (o : Outcome). o.next) (refused-line st l e)
+pub refused_keeps : (st : State) (l : List ℕ) → accepts st l ≡ false → (step st l).next ≡ st
+refused_keeps st l e = ap (λ (o : Outcome). o.next) (refused-line st l e)
 
-pub accepted-outcome : (r : Refusal) (st : State) (f : Frame) → isAccepted r ≡ true → outcome r st f ≡ record { next = takes st f; answer = answerTo f (takes st f) }
-unfolding isAccepted outcome
-accepted-outcome Accepted st f e = refl
-accepted-outcome Malformed st f e = absurd (false≢true e)
-accepted-outcome Misplaced st f e = absurd (false≢true e)
-accepted-outcome Beyond st f e = absurd (false≢true e)
-accepted-outcome Full st f e = absurd (false≢true e)
-accepted-outcome Absent st f e = absurd (false≢true e)
-accepted-outcome Taken st f e = absurd (false≢true e)
-accepted-outcome Late st f e = absurd (false≢true e)
+pub accepted_outcome : (r : Refusal) (st : State) (f : Frame) → is_accepted_of r ≡ true → outcome r st f ≡ record { next = takes st f; answer = answer_to f (takes st f) }
+unfolding is_accepted_of outcome
+accepted_outcome Accepted st f e = refl
+accepted_outcome Malformed st f e = absurd (false≢true e)
+accepted_outcome Misplaced st f e = absurd (false≢true e)
+accepted_outcome Beyond st f e = absurd (false≢true e)
+accepted_outcome Full st f e = absurd (false≢true e)
+accepted_outcome Absent st f e = absurd (false≢true e)
+accepted_outcome Taken st f e = absurd (false≢true e)
+accepted_outcome Late st f e = absurd (false≢true e)
 
-pub accepted-line : (st : State) (l : List ℕ) → accepts st l ≡ true → step st l ≡ record { next = takes st (decode l); answer = answerTo (decode l) (takes st (decode l)) }
+pub accepted_line : (st : State) (l : List ℕ) → accepts st l ≡ true → step st l ≡ record { next = takes st (decode l); answer = answer_to (decode l) (takes st (decode l)) }
 unfolding accepts step
-accepted-line st l e = accepted-outcome (refusal st (decode l)) st (decode l) e
+accepted_line st l e = accepted_outcome (refusal st (decode l)) st (decode l) e
 
 -- an accepted line is taken
-pub accepted-keeps : (st : State) (l : List ℕ) → accepts st l ≡ true → (step st l).next ≡ takes st (decode l)
-accepted-keeps st l e = ap (λ (o : Outcome). o.next) (accepted-line st l e)
+pub accepted_keeps : (st : State) (l : List ℕ) → accepts st l ≡ true → (step st l).next ≡ takes st (decode l)
+accepted_keeps st l e = ap (λ (o : Outcome). o.next) (accepted_line st l e)
 
 -- the answer to each line
-unfoldable pub answersTo : State → List (List ℕ) → List (List ℕ)
-answersTo st [] = []
-answersTo st (l ∷ ls) = (step st l).answer ∷ answersTo (step st l).next ls
+unfoldable pub answers_to : State → List (List ℕ) → List (List ℕ)
+answers_to st [] = []
+answers_to st (l ∷ ls) = (step st l).answer ∷ answers_to (step st l).next ls
 
 -- the answer bytes are those answers, each ended by a line feed
-pub run-joined : (st : State) (ls : List (List ℕ)) → run st ls ≡ joined (answersTo st ls)
-unfolding run joined answersTo
+pub run-joined : (st : State) (ls : List (List ℕ)) → run st ls ≡ joined (answers_to st ls)
+unfolding run joined answers_to
 run-joined st [] = refl
 run-joined st (l ∷ ls) = ap (λ (s : List ℕ). ended (step st l).answer ++ s) (run-joined (step st l).next ls)
 
 -- striking out all refused lines changes no other answer
-pub strike-answers : (st : State) (ls : List (List ℕ)) → answersTo st (struck st ls) ≡ acceptedAnswers st ls
-unfolding struck answersTo acceptedAnswers
-strike-answers st [] = refl
-strike-answers st (l ∷ ls) = go (accepts st l) refl (strike-answers (step st l).next ls)
+pub strike_answers : (st : State) (ls : List (List ℕ)) → answers_to st (struck st ls) ≡ accepted_answers st ls
+unfolding struck answers_to accepted_answers
+strike_answers st [] = refl
+strike_answers st (l ∷ ls) = go (accepts st l) refl (strike_answers (step st l).next ls)
   where
-    go : (b : Bool) → accepts st l ≡ b → answersTo (step st l).next (struck (step st l).next ls) ≡ acceptedAnswers (step st l).next ls
-        → answersTo st (struck st (l ∷ ls)) ≡ acceptedAnswers st (l ∷ ls)
-    go true e ih = rw (e, struck, acceptedAnswers) (ap (λ (as' : List (List ℕ)). (step st l).answer ∷ as') ih)
-    go false e ih = rw (e, struck, acceptedAnswers) (subst (λ (s : State). answersTo s (struck (step st l).next ls) ≡ acceptedAnswers (step st l).next ls) (refused-keeps st l e) ih)
+    go : (b : Bool) → accepts st l ≡ b → answers_to (step st l).next (struck (step st l).next ls) ≡ accepted_answers (step st l).next ls
+        → answers_to st (struck st (l ∷ ls)) ≡ accepted_answers st (l ∷ ls)
+    go true e ih = rw (e, struck, accepted_answers) (ap (λ (as' : List (List ℕ)). (step st l).answer ∷ as') ih)
+    go false e ih = rw (e, struck, accepted_answers) (subst (λ (s : State). answers_to s (struck (step st l).next ls) ≡ accepted_answers (step st l).next ls) (refused_keeps st l e) ih)
 
 -- nor what is held
-pub strike-after : (st : State) (ls : List (List ℕ)) → after st (struck st ls) ≡ after st ls
+pub strike_after : (st : State) (ls : List (List ℕ)) → after st (struck st ls) ≡ after st ls
 unfolding struck after
-strike-after st [] = refl
-strike-after st (l ∷ ls) = go (accepts st l) refl (strike-after (step st l).next ls)
+strike_after st [] = refl
+strike_after st (l ∷ ls) = go (accepts st l) refl (strike_after (step st l).next ls)
   where
     go : (b : Bool) → accepts st l ≡ b → after (step st l).next (struck (step st l).next ls) ≡ after (step st l).next ls
         → after st (struck st (l ∷ ls)) ≡ after st (l ∷ ls)
     go true e ih = rw (e, struck) ih
-    go false e ih = rw (e, struck) (subst (λ (s : State). after s (struck (step st l).next ls) ≡ after (step st l).next ls) (refused-keeps st l e) ih)
+    go false e ih = rw (e, struck) (subst (λ (s : State). after s (struck (step st l).next ls) ≡ after (step st l).next ls) (refused_keeps st l e) ih)
 
 -- a stream whose lines are those left of another's: its answers are the other's answers to those lines
-pub struck-stream : (stream left : List ℕ) → lines left ≡ struck nothing (lines stream) → answers left ≡ joined (acceptedAnswers nothing (lines stream))
+pub struck_stream : (stream left : List ℕ) → lines left ≡ struck nothing (lines stream) → answers left ≡ joined (accepted_answers nothing (lines stream))
 unfolding answers
-struck-stream stream left e =
-    ap (run nothing) e ∙ run-joined nothing (struck nothing (lines stream)) ∙ ap joined (strike-answers nothing (lines stream))
+struck_stream stream left e =
+    ap (run nothing) e ∙ run-joined nothing (struck nothing (lines stream)) ∙ ap joined (strike_answers nothing (lines stream))

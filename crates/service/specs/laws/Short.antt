@@ -3,12 +3,12 @@ use Rattle.std.specs.Prelude.{ℕ, ◌*◌, ◌≤◌, List, [], ◌∷◌, leng
 use Rattle.std.proofs.Common.{arith, length-append}
 use Rattle.hex.specs.Hex.{digits}
 use Rattle.lines.specs.Lines.{lines, ended}
-use Rattle.frame.specs.Frame.{Frame, begin, point, polygon, end-of-load, move, turn, question, inner, across, broken, decode}
+use Rattle.frame.specs.Frame.{Frame, begin, point, polygon, end_of_load, move, turn, question, inner, across, broken, decode}
 use Rattle.answer.specs.Answer.{plain, reported, told}
 use Rattle.hex.specs.laws.Back.{length_digits}
 use Rattle.service.specs.declared.Refusal.{Refusal}
 use Rattle.service.specs.declared.Refusal.TheVariants.{Accepted, Malformed, Misplaced, Beyond, Full, Absent, Taken, Late}
-use Rattle.service.specs.Service.{State, nothing, reportOf, toldOf, acrossOf, answerTo, outcome, refusal, step}
+use Rattle.service.specs.Service.{State, nothing, report_of, told_of, across_of, answer_to, outcome, refusal, step}
 use Rattle.service.specs.Stream.{run, answers}
 use Rattle.answer.specs.Answer as Answer
 
@@ -28,22 +28,22 @@ length-across : (users lowest second : ℕ) → length (Answer.across users lowe
 unfolding Answer.across digits
 length-across users lowest second = omega arith
 
-length-answer : (f : Frame) (st : State) → length (answerTo f st) ≤ 32
-unfolding answerTo reportOf toldOf acrossOf
-length-answer (begin t) st = length-plain 0
-length-answer (point x y z) st = length-plain 0
-length-answer (polygon ring) st = length-plain 0
-length-answer end-of-load st = length-reported _ _ _ _ _
-length-answer (move number n x y z) st = length-reported _ _ _ _ _
-length-answer (turn number n) st = length-reported _ _ _ _ _
-length-answer (question n) st = length-told _ _ _ _
-length-answer (inner ring) st = length-plain 0
-length-answer (across m n) st = length-across _ _ _
-length-answer broken st = length-plain 0
+length_answer : (f : Frame) (st : State) → length (answer_to f st) ≤ 32
+unfolding answer_to report_of told_of across_of
+length_answer (begin t) st = length-plain 0
+length_answer (point x y z) st = length-plain 0
+length_answer (polygon ring) st = length-plain 0
+length_answer end_of_load st = length-reported _ _ _ _ _
+length_answer (move number n x y z) st = length-reported _ _ _ _ _
+length_answer (turn number n) st = length-reported _ _ _ _ _
+length_answer (question n) st = length-told _ _ _ _
+length_answer (inner ring) st = length-plain 0
+length_answer (across m n) st = length-across _ _ _
+length_answer broken st = length-plain 0
 
 length-outcome : (r : Refusal) (st : State) (f : Frame) → length (outcome r st f).answer ≤ 32
 unfolding outcome
-length-outcome Accepted st f = length-answer f _
+length-outcome Accepted st f = length_answer f _
 length-outcome Malformed st f = length-plain _
 length-outcome Misplaced st f = length-plain _
 length-outcome Beyond st f = length-plain _

@@ -6,68 +6,68 @@ use Rattle.std.proofs.lemmas.Bool.{false≢true}
 use mathlib.Core.List.{List, [], ◌∷◌, ◌++◌, map, append_assoc}
 use Rattle.std.proofs.Math.ListN.{get_or}
 use Rattle.whole.specs.Lists.{given, first}
-use Rattle.frame.specs.Frame.{Frame, begin, point, polygon, end-of-load, move, turn, question, inner, across, broken, decode}
+use Rattle.frame.specs.Frame.{Frame, begin, point, polygon, end_of_load, move, turn, question, inner, across, broken, decode}
 use Rattle.frame.specs.Encode.{encode}
 use Rattle.answer.specs.Answer.{told}
 use Rattle.ring.specs.Polygon.{Polygon, one}
-use Rattle.polygon.specs.Ring.{findingNumber, findingPosition}
+use Rattle.polygon.specs.Ring.{finding_number_of, finding_position_of}
 use Rattle.inner.specs.Finding.{finding, part}
 use Rattle.building.specs.Tables.{Tables, Building, loaded}
-use Rattle.building.specs.Corrections.{Correction, stampOf}
-use Rattle.building.specs.laws.History.{told-loaded, stamp-told, polygons-told}
+use Rattle.building.specs.Corrections.{Correction, stamp_of}
+use Rattle.building.specs.laws.History.{told-loaded, stamp_told, polygons-told}
 use Rattle.building.specs.laws.Loadable.{Loadable}
 use Rattle.service.specs.declared.Refusal.TheVariants.{Late}
-use Rattle.service.specs.Service.{State, nothing, holding, refusal, tables_of, buildingOf, takes, reportOf, toldOf, answerTo, Outcome, step, isMalformed, isMisplaced, isHolding, isLate, isAbsent, isBeyond, isFull, is_taken, isAccepted, accepts}
+use Rattle.service.specs.Service.{State, nothing, holding, refusal, tables_of, building_of, takes, report_of, told_of, answer_to, Outcome, step, is_malformed, is_misplaced_of, is_holding_of, is_late, is_absent, is_beyond_of, is_full_of, is_taken, is_accepted_of, accepts}
 use Rattle.service.specs.Stream.{after}
-use Rattle.service.specs.Span.{isBegin, NoBegin, history, isCorrection, loadedBy, Span, correctionsOf, correctedBy, held, Numbered, a_move, a_turn, toldIn, SameButStamp}
-use Rattle.service.specs.laws.Refusals.{accepted-keeps, accepted-line}
+use Rattle.service.specs.Span.{is_begin, NoBegin, history, is_correction, loaded_by, Span, corrections_of, corrected_by, held, Numbered, a_move, a_turn, told_in, SameButStamp}
+use Rattle.service.specs.laws.Refusals.{accepted_keeps, accepted_line}
 use Rattle.service.specs.laws.History.{after-told}
-use Rattle.service.specs.laws.Handlers.{of-move, of-turn}
-use Rattle.service.specs.laws.Fresh.{Passed, passed, passes, Sound, idle, after-sound, held-loadable, after-append, load-brings, end-holds, fresh-is, correction-reports}
-use Rattle.service.specs.Fresh.{loadLines, freshReport, freshHeld}
+use Rattle.service.specs.laws.Handlers.{of_move_lem, of_turn_lem}
+use Rattle.service.specs.laws.Fresh.{Passed, passed, passes, Sound, idle, after_sound, held_loadable, after_append, load_brings, end_holds, fresh_is, correction_reports}
+use Rattle.service.specs.Fresh.{load_lines, fresh_report, fresh_held}
 use Rattle.building.specs.Corrections as C
 
 module _ (before : List (List ℕ)) (end : List ℕ) (since : List (List ℕ)) (s : Span before end since) where
-  pub end-takes : (step (after nothing before) end).next ≡ holding (loaded (loadedBy before))
-  unfolding takes loadedBy
-  end-takes = accepted-keeps (after nothing before) end s.accepted ∙ ap (takes (after nothing before)) s.ends
+  pub end_takes : (step (after nothing before) end).next ≡ holding (loaded (loaded_by before))
+  unfolding takes loaded_by
+  end_takes = accepted_keeps (after nothing before) end s.accepted ∙ ap (takes (after nothing before)) s.ends
 
   -- the building held is told from the corrections accepted in the span
-  pub held-told : held before end since ≡ holding (C.told (loadedBy before) (correctionsOf before since))
-  unfolding held after correctionsOf
+  pub held-told : held before end since ≡ holding (C.told (loaded_by before) (corrections_of before since))
+  unfolding held after corrections_of
   held-told =
-      after-append nothing before (end ∷ since)
-      ∙ ap (λ (st : State). after st since) end-takes
-      ∙ subst (λ (b : Building). NoBegin (holding b) since → after (holding b) since ≡ holding (C.told (loadedBy before) (history (holding b) since []))) (told-loaded (loadedBy before)) (after-told (loadedBy before) [] since) s.no-begin
+      after_append nothing before (end ∷ since)
+      ∙ ap (λ (st : State). after st since) end_takes
+      ∙ subst (λ (b : Building). NoBegin (holding b) since → after (holding b) since ≡ holding (C.told (loaded_by before) (history (holding b) since []))) (told-loaded (loaded_by before)) (after-told (loaded_by before) [] since) s.no_begin
 
-  pub held-tables : tables_of (held before end since) ≡ correctedBy before since
-  unfolding tables_of correctedBy C.told
-  held-tables = ap tables_of held-told
+  pub held_tables : tables_of (held before end since) ≡ corrected_by before since
+  unfolding tables_of corrected_by C.told
+  held_tables = ap tables_of held-told
 
-  pub held-sound : Sound (holding (C.told (loadedBy before) (correctionsOf before since)))
-  held-sound = subst Sound held-told (unfold held in after-sound nothing (before ++ end ∷ since) idle)
+  pub held_sound : Sound (holding (C.told (loaded_by before) (corrections_of before since)))
+  held_sound = subst Sound held-told (unfold held in after_sound nothing (before ++ end ∷ since) idle)
 
-  pub corrected-loadable : Loadable (correctedBy before since)
-  unfolding correctedBy C.told
-  corrected-loadable = held-loadable held-sound
+  pub corrected_loadable : Loadable (corrected_by before since)
+  unfolding corrected_by C.told
+  corrected_loadable = held_loadable held_sound
 
-  pub stamp-is : (n : ℕ) → n < length (loadedBy before).polygons → get_or (buildingOf (held before end since)).stamps n 0 ≡ stampOf (correctionsOf before since) n (get_or (loadedBy before).polygons n (one []))
-  unfolding buildingOf
-  stamp-is n h = ap (λ (st : State). get_or (buildingOf st).stamps n 0) held-told ∙ stamp-told (loadedBy before) (correctionsOf before since) n h
+  pub stamp_is : (n : ℕ) → n < length (loaded_by before).polygons → get_or (building_of (held before end since)).stamps n 0 ≡ stamp_of (corrections_of before since) n (get_or (loaded_by before).polygons n (one []))
+  unfolding building_of
+  stamp_is n h = ap (λ (st : State). get_or (building_of st).stamps n 0) held-told ∙ stamp_told (loaded_by before) (corrections_of before since) n h
 
 -- the end of load itself answers the report of the tables loaded
-pub end-reports : (before : List (List ℕ)) (end : List ℕ) → Span before end [] → (step (after nothing before) end).answer ≡ reportOf (loadedBy before)
-unfolding answerTo takes tables_of loadedBy loaded
-end-reports before end s = ap (λ (o : Outcome). o.answer) (accepted-line (after nothing before) end s.accepted) ∙ ap (λ (f : Frame). answerTo f (takes (after nothing before) f)) s.ends
+pub end_reports : (before : List (List ℕ)) (end : List ℕ) → Span before end [] → (step (after nothing before) end).answer ≡ report_of (loaded_by before)
+unfolding answer_to takes tables_of loaded_by loaded
+end_reports before end s = ap (λ (o : Outcome). o.answer) (accepted_line (after nothing before) end s.accepted) ∙ ap (λ (f : Frame). answer_to f (takes (after nothing before) f)) s.ends
 
 -- ---- one correction more
 
-not-begin : (f : Frame) → isCorrection f ≡ true → isBegin f ≡ false
-unfolding isCorrection isBegin
+not-begin : (f : Frame) → is_correction f ≡ true → is_begin f ≡ false
+unfolding is_correction is_begin
 not-begin (begin t) e = absurd (false≢true e)
 not-begin (point x y z) e = refl
 not-begin (polygon ring) e = refl
-not-begin end-of-load e = refl
+not-begin end_of_load e = refl
 not-begin (move number n x y z) e = refl
 not-begin (turn number n) e = refl
 not-begin (question n) e = refl
@@ -75,126 +75,126 @@ not-begin (inner ring) e = refl
 not-begin (across m n) e = refl
 not-begin broken e = refl
 
-and-false : (a b : Bool) → b ≡ false → (a && b) ≡ false
-and-false true b e = e
-and-false false b e = refl
+and_false : (a b : Bool) → b ≡ false → (a && b) ≡ false
+and_false true b e = e
+and_false false b e = refl
 
-no-begin-more : (st : State) (ls : List (List ℕ)) (l : List ℕ) → NoBegin st ls → isBegin (decode l) ≡ false → NoBegin st (ls ++ (l ∷ []))
+no_begin_more : (st : State) (ls : List (List ℕ)) (l : List ℕ) → NoBegin st ls → is_begin (decode l) ≡ false → NoBegin st (ls ++ (l ∷ []))
 unfolding NoBegin
-no-begin-more st [] l n e = (and-false (accepts st l) (isBegin (decode l)) e, tt)
-no-begin-more st (m ∷ ls) l n e = (n.0, no-begin-more (step st m).next ls l n.1 e)
+no_begin_more st [] l n e = (and_false (accepts st l) (is_begin (decode l)) e, tt)
+no_begin_more st (m ∷ ls) l n e = (n.0, no_begin_more (step st m).next ls l n.1 e)
 
 module _ (before : List (List ℕ)) (end : List ℕ) (since : List (List ℕ)) (l : List ℕ) (s : Span before end since) where
-  span_more : isCorrection (decode l) ≡ true → Span before end (since ++ (l ∷ []))
-  span_more c = record { ends = s.ends; accepted = s.accepted; no-begin = no-begin-more (holding (loaded (loadedBy before))) since l s.no-begin (not-begin (decode l) c) }
+  span_more : is_correction (decode l) ≡ true → Span before end (since ++ (l ∷ []))
+  span_more c = record { ends = s.ends; accepted = s.accepted; no_begin = no_begin_more (holding (loaded (loaded_by before))) since l s.no_begin (not-begin (decode l) c) }
 
   next-held : (step (held before end since) l).next ≡ held before end (since ++ (l ∷ []))
   unfolding held after
   next-held =
-      sym (after-append nothing (before ++ end ∷ since) (l ∷ []))
+      sym (after_append nothing (before ++ end ∷ since) (l ∷ []))
       ∙ ap (after nothing) (append_assoc before (end ∷ since) (l ∷ []))
 
   -- an accepted correction's report is that of a fresh load of the corrected tables
-  pub correction-fresh : accepts (held before end since) l ≡ true → isCorrection (decode l) ≡ true
-      → (step (held before end since) l).answer ≡ freshReport (correctedBy before (since ++ (l ∷ [])))
-  correction-fresh a c =
-      correction-reports (held before end since) l (unfold held in after-sound nothing (before ++ end ∷ since) idle) a c
-      ∙ ap (λ (st : State). freshReport (tables_of st)) next-held
-      ∙ ap freshReport (held-tables before end (since ++ (l ∷ [])) (span_more c))
+  pub correction_fresh : accepts (held before end since) l ≡ true → is_correction (decode l) ≡ true
+      → (step (held before end since) l).answer ≡ fresh_report (corrected_by before (since ++ (l ∷ [])))
+  correction_fresh a c =
+      correction_reports (held before end since) l (unfold held in after_sound nothing (before ++ end ∷ since) idle) a c
+      ∙ ap (λ (st : State). fresh_report (tables_of st)) next-held
+      ∙ ap fresh_report (held_tables before end (since ++ (l ∷ [])) (span_more c))
 
   -- which is the report of the corrected tables
-  pub correction-report : accepts (held before end since) l ≡ true → isCorrection (decode l) ≡ true
-      → (step (held before end since) l).answer ≡ reportOf (correctedBy before (since ++ (l ∷ [])))
-  correction-report a c = correction-fresh a c ∙ fresh-is (correctedBy before (since ++ (l ∷ []))) (corrected-loadable before end (since ++ (l ∷ [])) (span_more c))
+  pub correction_report : accepts (held before end since) l ≡ true → is_correction (decode l) ≡ true
+      → (step (held before end since) l).answer ≡ report_of (corrected_by before (since ++ (l ∷ [])))
+  correction_report a c = correction_fresh a c ∙ fresh_is (corrected_by before (since ++ (l ∷ []))) (corrected_loadable before end (since ++ (l ∷ [])) (span_more c))
 
 -- ---- late corrections
 
-late-held : (b : Building) {f : Frame} {number : ℕ} → Numbered f number → number ≤ b.last → refusal (holding b) f ≡ Late
+late_held : (b : Building) {f : Frame} {number : ℕ} → Numbered f number → number ≤ b.last → refusal (holding b) f ≡ Late
 unfolding first given
-late-held b (a_move {number = number} {n = n} {x = x} {y = y} {z = z}) h = of-move b number n x y z ∙ (rw (le-leb number b.last h))
-late-held b (a_turn {number = number} {n = n}) h = of-turn b number n ∙ (rw (le-leb number b.last h))
+late_held b (a_move {number = number} {n = n} {x = x} {y = y} {z = z}) h = of_move_lem b number n x y z ∙ (rw (le-leb number b.last h))
+late_held b (a_turn {number = number} {n = n}) h = of_turn_lem b number n ∙ (rw (le-leb number b.last h))
 
-pub late-correction : (before : List (List ℕ)) (end : List ℕ) (since : List (List ℕ)) → Span before end since → (l : List ℕ) (number : ℕ) → Numbered (decode l) number
-    → number ≤ C.lastNumber (correctionsOf before since) → refusal (held before end since) (decode l) ≡ Late
+pub late_correction : (before : List (List ℕ)) (end : List ℕ) (since : List (List ℕ)) → Span before end since → (l : List ℕ) (number : ℕ) → Numbered (decode l) number
+    → number ≤ C.last_number (corrections_of before since) → refusal (held before end since) (decode l) ≡ Late
 unfolding C.told
-late-correction before end since s l number k h =
-    ap (λ (st : State). refusal st (decode l)) (held-told before end since s) ∙ late-held (C.told (loadedBy before) (correctionsOf before since)) k h
+late_correction before end since s l number k h =
+    ap (λ (st : State). refusal st (decode l)) (held-told before end since s) ∙ late_held (C.told (loaded_by before) (corrections_of before since)) k h
 
 -- ---- questions
 
-pub fresh-held : (t : Tables) → Loadable t → freshHeld t ≡ holding (loaded t)
-unfolding freshHeld after
-fresh-held t ok =
-    after-append nothing (loadLines t) (encode end-of-load ∷ [])
-    ∙ ap (λ (st : State). (step st (encode end-of-load)).next) (load-brings nothing t ok)
-    ∙ ap (λ (o : Outcome). o.next) (end-holds t)
+pub fresh_held_lem : (t : Tables) → Loadable t → fresh_held t ≡ holding (loaded t)
+unfolding fresh_held after
+fresh_held_lem t ok =
+    after_append nothing (load_lines t) (encode end_of_load ∷ [])
+    ∙ ap (λ (st : State). (step st (encode end_of_load)).next) (load_brings nothing t ok)
+    ∙ ap (λ (o : Outcome). o.next) (end_holds t)
 
-no-stamp : (ps : List Polygon) (n : ℕ) → ◌≡◌ {A = ℕ} (get_or (map (λ p. 0) ps) n 0) 0
-no-stamp [] n = refl
-no-stamp (p ∷ ps) zero = refl
-no-stamp (p ∷ ps) (suc n) = no-stamp ps n
+no_stamp : (ps : List Polygon) (n : ℕ) → ◌≡◌ {A = ℕ} (get_or (map (λ p. 0) ps) n 0) 0
+no_stamp [] n = refl
+no_stamp (p ∷ ps) zero = refl
+no_stamp (p ∷ ps) (suc n) = no_stamp ps n
 
-question-passes : (b b' : Building) (n : ℕ) → b.tables ≡ b'.tables → Passed (holding b) (question n) → Passed (holding b') (question n)
-unfolding isMalformed isMisplaced isHolding isLate isAbsent isBeyond isFull is_taken tables_of
-question-passes b b' n e p =
+question_passes : (b b' : Building) (n : ℕ) → b.tables ≡ b'.tables → Passed (holding b) (question n) → Passed (holding b') (question n)
+unfolding is_malformed is_misplaced_of is_holding_of is_late is_absent is_beyond_of is_full_of is_taken tables_of
+question_passes b b' n e p =
     record { formed = refl; placed = refl; timely = refl; known = ap (λ (t : Tables). leb (length t.polygons) n) (sym e) ∙ p.known; within = refl; room = refl; free = refl }
 
-question-answer : (b : Building) (l : List ℕ) (n : ℕ) → decode l ≡ question n → accepts (holding b) l ≡ true → (step (holding b) l).answer ≡ toldOf n b
-unfolding answerTo takes buildingOf
-question-answer b l n d a = ap (λ (o : Outcome). o.answer) (accepted-line (holding b) l a) ∙ ap (λ (f : Frame). answerTo f (takes (holding b) f)) d
+question_answer : (b : Building) (l : List ℕ) (n : ℕ) → decode l ≡ question n → accepts (holding b) l ≡ true → (step (holding b) l).answer ≡ told_of n b
+unfolding answer_to takes building_of
+question_answer b l n d a = ap (λ (o : Outcome). o.answer) (accepted_line (holding b) l a) ∙ ap (λ (f : Frame). answer_to f (takes (holding b) f)) d
 
-accepts-question : (b : Building) (l : List ℕ) (n : ℕ) → decode l ≡ question n → Passed (holding b) (question n) → accepts (holding b) l ≡ true
-unfolding accepts isAccepted
-accepts-question b l n d p = rw (d, passes (holding b) (question n) p)
+accepts_question : (b : Building) (l : List ℕ) (n : ℕ) → decode l ≡ question n → Passed (holding b) (question n) → accepts (holding b) l ≡ true
+unfolding accepts is_accepted_of
+accepts_question b l n d p = rw (d, passes (holding b) (question n) p)
 
-question-passed : (b : Building) (l : List ℕ) (n : ℕ) → decode l ≡ question n → accepts (holding b) l ≡ true → Passed (holding b) (question n)
+question_passed : (b : Building) (l : List ℕ) (n : ℕ) → decode l ≡ question n → accepts (holding b) l ≡ true → Passed (holding b) (question n)
 unfolding accepts
-question-passed b l n d a = passed (holding b) (question n) (rw d at a)
+question_passed b l n d a = passed (holding b) (question n) (rw d at a)
 
 module _ (b : Building) (l : List ℕ) (n : ℕ) (d : decode l ≡ question n) (a : accepts (holding b) l ≡ true) where
-  fresh-accepts : accepts (holding (loaded b.tables)) l ≡ true
+  fresh_accepts : accepts (holding (loaded b.tables)) l ≡ true
   unfolding loaded
-  fresh-accepts = accepts-question (loaded b.tables) l n d (question-passes b (loaded b.tables) n refl (question-passed b l n d a))
+  fresh_accepts = accepts_question (loaded b.tables) l n d (question_passes b (loaded b.tables) n refl (question_passed b l n d a))
 
-  same-question : SameButStamp (step (holding b) l).answer (step (holding (loaded b.tables)) l).answer
-  unfolding toldOf loaded
-  same-question =
+  same_question : SameButStamp (step (holding b) l).answer (step (holding (loaded b.tables)) l).answer
+  unfolding told_of loaded
+  same_question =
       let t = b.tables in
       let p = get_or t.polygons n (one []) in
       let f = finding t.tolerance t.points p in
       record {
-        found = findingNumber f;
-        position = findingPosition f;
+        found = finding_number_of f;
+        position = finding_position_of f;
         stamp = get_or b.stamps n 0;
-        part-is = part t.points p;
-        here = question-answer b l n d a;
-        there = question-answer (loaded t) l n d fresh-accepts ∙ ap (λ (z : ℕ). told (findingNumber f) (findingPosition f) z (part t.points p)) (no-stamp t.polygons n);
+        part_is = part t.points p;
+        here = question_answer b l n d a;
+        there = question_answer (loaded t) l n d fresh_accepts ∙ ap (λ (z : ℕ). told (finding_number_of f) (finding_position_of f) z (part t.points p)) (no_stamp t.polygons n);
       }
 
 -- an accepted question's finding, position and part are those that a fresh load of the corrected tables answers
-pub question-fresh : (before : List (List ℕ)) (end : List ℕ) (since : List (List ℕ)) → Span before end since → (l : List ℕ) (n : ℕ) → decode l ≡ question n
+pub question_fresh : (before : List (List ℕ)) (end : List ℕ) (since : List (List ℕ)) → Span before end since → (l : List ℕ) (n : ℕ) → decode l ≡ question n
     → accepts (held before end since) l ≡ true
-    → SameButStamp (step (held before end since) l).answer (step (freshHeld (correctedBy before since)) l).answer
-unfolding correctedBy C.told
-question-fresh before end since s l n d a =
-    let b : Building = C.told (loadedBy before) (correctionsOf before since) in
+    → SameButStamp (step (held before end since) l).answer (step (fresh_held (corrected_by before since)) l).answer
+unfolding corrected_by C.told
+question_fresh before end since s l n d a =
+    let b : Building = C.told (loaded_by before) (corrections_of before since) in
     let e : held before end since ≡ holding b = held-told before end since s in
-    let f : freshHeld (correctedBy before since) ≡ holding (loaded b.tables) = fresh-held (correctedBy before since) (corrected-loadable before end since s) in
-    rw (e, f) (same-question b l n d (rw e at a))
+    let f : fresh_held (corrected_by before since) ≡ holding (loaded b.tables) = fresh_held_lem (corrected_by before since) (corrected_loadable before end since s) in
+    rw (e, f) (same_question b l n d (rw e at a))
 
 -- an accepted question names a polygon that was loaded
-question-known : (t : Tables) (h : List Correction) (l : List ℕ) (n : ℕ) → decode l ≡ question n → accepts (holding (C.told t h)) l ≡ true → n < length t.polygons
-unfolding isAbsent tables_of
-question-known t h l n d a = omega (arith, leb-false (length (C.told t h).tables.polygons) n (question-passed (C.told t h) l n d a).known, polygons-told t h)
+question_known : (t : Tables) (h : List Correction) (l : List ℕ) (n : ℕ) → decode l ≡ question n → accepts (holding (C.told t h)) l ≡ true → n < length t.polygons
+unfolding is_absent tables_of
+question_known t h l n d a = omega (arith, leb-false (length (C.told t h).tables.polygons) n (question_passed (C.told t h) l n d a).known, polygons-told t h)
 
 -- and its stamp is that of the span: finding, position, stamp and part, from the corrected tables and the corrections alone
-pub question-told : (before : List (List ℕ)) (end : List ℕ) (since : List (List ℕ)) → Span before end since → (l : List ℕ) (n : ℕ) → decode l ≡ question n
+pub question_told : (before : List (List ℕ)) (end : List ℕ) (since : List (List ℕ)) → Span before end since → (l : List ℕ) (n : ℕ) → decode l ≡ question n
     → accepts (held before end since) l ≡ true
-    → (step (held before end since) l).answer ≡ toldIn (correctedBy before since) n (stampOf (correctionsOf before since) n (get_or (loadedBy before).polygons n (one [])))
-unfolding toldOf correctedBy C.told
-question-told before end since s l n d a =
-    let b : Building = C.told (loadedBy before) (correctionsOf before since) in
+    → (step (held before end since) l).answer ≡ told_in (corrected_by before since) n (stamp_of (corrections_of before since) n (get_or (loaded_by before).polygons n (one [])))
+unfolding told_of corrected_by C.told
+question_told before end since s l n d a =
+    let b : Building = C.told (loaded_by before) (corrections_of before since) in
     let e : held before end since ≡ holding b = held-told before end since s in
-    let h : n < length (loadedBy before).polygons = question-known (loadedBy before) (correctionsOf before since) l n d (rw e at a) in
-    (rw e (question-answer b l n d (rw e at a)))
-    ∙ ap (toldIn b.tables n) (stamp-told (loadedBy before) (correctionsOf before since) n h)
+    let h : n < length (loaded_by before).polygons = question_known (loaded_by before) (corrections_of before since) l n d (rw e at a) in
+    (rw e (question_answer b l n d (rw e at a)))
+    ∙ ap (told_in b.tables n) (stamp_told (loaded_by before) (corrections_of before since) n h)

@@ -3,7 +3,7 @@ use Rattle.std.specs.Prelude.{ℕ, ◌≤◌, ◌<◌, ◌≡◌, refl, Bool, tr
 use Rattle.std.proofs.Common.{arith, sym, ap, inl, inr}
 use Rattle.whole.specs.All.{All, none, more}
 use Rattle.lines.specs.Lines.{lines, joined}
-use Rattle.lines.specs.laws.LineLaws.{NoFeed, lines-joined, lines-no-feed, length-joined, joined-short}
+use Rattle.lines.specs.laws.LineLaws.{NoFeed, lines-joined, lines_no_feed, length-joined, joined-short}
 use Rattle.service.specs.Service.{State, nothing, step, accepts}
 use Rattle.service.specs.Strike.{struck, Left}
 
@@ -17,20 +17,20 @@ all-struck P st (l ∷ ls) (more h hs) = go (accepts st l) (all-struck P (step s
     go true a = more h a
     go false a = a
 
-struck-fewer : (st : State) (ls : List (List ℕ)) → length (struck st ls) ≤ length ls
+struck_fewer : (st : State) (ls : List (List ℕ)) → length (struck st ls) ≤ length ls
 unfolding struck
-struck-fewer st [] = omega arith
-struck-fewer st (l ∷ ls) = go (accepts st l) (struck-fewer (step st l).next ls)
+struck_fewer st [] = omega arith
+struck_fewer st (l ∷ ls) = go (accepts st l) (struck_fewer (step st l).next ls)
   where
     go : (b : Bool) → length (struck (step st l).next ls) ≤ length ls → length {A = List ℕ} (elim b [ true ↦ l ∷ struck (step st l).next ls | false ↦ struck (step st l).next ls ]) ≤ length (l ∷ ls)
     go true h = omega arith
     go false h = omega arith
 
 -- a line that is struck out takes its line feed with it
-struck-shorter : (st : State) (ls : List (List ℕ)) → (struck st ls ≡ ls) ⊎ (length (joined (struck st ls)) < length (joined ls))
+struck_shorter : (st : State) (ls : List (List ℕ)) → (struck st ls ≡ ls) ⊎ (length (joined (struck st ls)) < length (joined ls))
 unfolding struck
-struck-shorter st [] = inl refl
-struck-shorter st (l ∷ ls) = go (accepts st l) (struck (step st l).next ls) (struck-shorter (step st l).next ls)
+struck_shorter st [] = inl refl
+struck_shorter st (l ∷ ls) = go (accepts st l) (struck (step st l).next ls) (struck_shorter (step st l).next ls)
   where
     go : (b : Bool) (left : List (List ℕ)) → (left ≡ ls) ⊎ (length (joined left) < length (joined ls)) → (elim b [ true ↦ l ∷ left | false ↦ left ] ≡ l ∷ ls) ⊎ (length (joined (elim b [ true ↦ l ∷ left | false ↦ left ])) < length (joined (l ∷ ls)))
     go true left (inl e) = inl (ap (λ (k : List (List ℕ)). l ∷ k) e)
@@ -39,18 +39,18 @@ struck-shorter st (l ∷ ls) = go (accepts st l) (struck (step st l).next ls) (s
     go false left (inr h) = inr (omega (arith, length-joined l ls))
 
 pub left-of : (stream : List ℕ) → Left stream
-left-of stream = go (struck-shorter nothing (lines stream))
+left-of stream = go (struck_shorter nothing (lines stream))
   where
     whole : length (lines stream) ≤ length (lines stream)
     whole = omega arith
 
     go : (struck nothing (lines stream) ≡ lines stream) ⊎ (length (joined (struck nothing (lines stream))) < length (joined (lines stream))) → Left stream
-    go (inl e) = record { left = stream; its-lines = sym e; no_longer = omega arith; no_more = whole }
+    go (inl e) = record { left = stream; its_lines = sym e; no_longer = omega arith; no_more = whole }
     go (inr h) =
-        let e : lines (joined (struck nothing (lines stream))) ≡ struck nothing (lines stream) = lines-joined (struck nothing (lines stream)) (all-struck NoFeed nothing (lines stream) (lines-no-feed stream)) in
+        let e : lines (joined (struck nothing (lines stream))) ≡ struck nothing (lines stream) = lines-joined (struck nothing (lines stream)) (all-struck NoFeed nothing (lines stream) (lines_no_feed stream)) in
         record {
           left = joined (struck nothing (lines stream));
-          its-lines = e;
+          its_lines = e;
           no_longer = omega (arith, joined-short stream);
-          no_more = omega (arith, ap length e, struck-fewer nothing (lines stream));
+          no_more = omega (arith, ap length e, struck_fewer nothing (lines stream));
         }

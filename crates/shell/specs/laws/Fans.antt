@@ -3,8 +3,8 @@
 use Rattle.std.specs.Prelude.{ℕ, ◌≡◌, refl, ◌⊎◌}
 use Rattle.std.proofs.Common.{sym, ap, subst, ◌∙◌, ⊎_elim}
 use Rattle.reach.specs.Reach.{Reach, start, step}
-use Rattle.shell.specs.laws.Adequate.{reach-trans, reach-sym}
-use Rattle.reach.specs.laws.Joins.{reach-map}
+use Rattle.shell.specs.laws.Adequate.{reach_trans, reach_sym}
+use Rattle.reach.specs.laws.Joins.{reach_map}
 
 -- what the corners of rings are to their links
 pub record Corners (N : ℕ → Type 0) (pt pl : ℕ → ℕ) (L : ℕ → ℕ → Type 0) (A : ℕ → ℕ → ℕ → Type 0) : Type 1 where
@@ -31,7 +31,7 @@ module _ (N : ℕ → Type 0) (pt pl : ℕ → ℕ) (L : ℕ → ℕ → Type 0)
   fan e n q (step {p = m} r s) f nf a b = go (k.meets (pt e) m q s) (fan e n m r)
     where
       go : (g : ℕ) × (h : ℕ) × N g × N h × (pt g ≡ pt e) × (pl g ≡ m) × (pt h ≡ pt e) × (pl h ≡ q) × Reach (λ x. x ≡ g) L h → ((g : ℕ) → N g → pt g ≡ pt e → pl g ≡ m → Reach (λ x. x ≡ e) L g) → Reach (λ x. x ≡ e) L f
-      go w ih = reach-trans (reach-trans (ih w.0 w.2 w.4 w.5) w.8) (k.once w.1 f w.3 nf (w.6 ∙ sym a) (w.7 ∙ sym b))
+      go w ih = reach_trans (reach_trans (ih w.0 w.2 w.4 w.5) w.8) (k.once w.1 f w.3 nf (w.6 ∙ sym a) (w.7 ∙ sym b))
 
   -- S holds of one corner of each point
   module _ (S : ℕ → Type 0) (first : (f : ℕ) → N f → (e : ℕ) × N e × S e × (pt e ≡ pt f)) (lone : (e f : ℕ) → S e → S f → pt e ≡ pt f → e ≡ f) where
@@ -53,10 +53,10 @@ module _ (N : ℕ → Type 0) (pt pl : ℕ → ℕ) (L : ℕ → ℕ → Type 0)
         let b : Reach (λ x. x ≡ c.0) L f = own c.0 f c.2 (c.3 ∙ q) rf in
         let u : Reach (λ x. x ≡ pl c.0) (A (pt e)) (pl e) = rw c.3 at (around c.0 e a).1 in
         let v : Reach (λ x. x ≡ pl c.0) (A (pt e)) (pl f) = rw c.3 at (around c.0 f b).1 in
-        reach-trans (reach-sym (pl c.0) (pl e) (k.even (pt e)) u) v
+        reach_trans (reach_sym (pl c.0) (pl e) (k.even (pt e)) u) v
 
     -- where a corner is not reached, its polygon is not linked to that of its point's first corner
     pub apart-around : (f : ℕ) → N f → (Reach S L f → ⊥) → (e : ℕ) × N e × (pt e ≡ pt f) × (Reach (λ x. x ≡ pl e) (A (pt f)) (pl f) → ⊥)
     apart-around f nf no-reach =
         let c = first f nf in
-        (c.0, c.1, c.3, λ r. no-reach (reach-map (λ q z. start (subst S (sym z) c.2)) (λ a b l. l) (fan c.0 c.1 (pl f) (rw c.3 r) f nf (sym c.3) refl)))
+        (c.0, c.1, c.3, λ r. no-reach (reach_map (λ q z. start (subst S (sym z) c.2)) (λ a b l. l) (fan c.0 c.1 (pl f) (rw c.3 r) f nf (sym c.3) refl)))

@@ -4,15 +4,15 @@ use Rattle.std.proofs.Math.Option.{Option, map}
 use Rattle.whole.specs.Lists.{given, first}
 use Rattle.shell.specs.declared.Shape.{Shape}
 use Rattle.shell.specs.declared.Shape.TheVariants.{Whole, Few, Once, Often, Apart, Unlinked}
-use Rattle.ring.specs.Polygon.{Polygon, allRings}
-use Rattle.edges.specs.Edges.{usedOnce, usedOften}
-use Rattle.shell.specs.Shell.{byEnds, notReached, notLinked}
-use Rattle.shell.specs.held.Kept.{fixedShape}
+use Rattle.ring.specs.Polygon.{Polygon, all_rings}
+use Rattle.edges.specs.Edges.{used_once, used_often}
+use Rattle.shell.specs.Shell.{by_ends, not_reached, not_linked}
+use Rattle.shell.specs.held.Kept.{fixed_shape}
 
 -- the rows, by what the checks found
-unfoldable pub fixedBy : Bool → ℕ → Option ℕ → Option ℕ → Option ℕ → Option ℕ → Shape
-fixedBy b n o p q r = first Whole (given b (Few n) ∷ map (byEnds Once) o ∷ map (byEnds Often) p ∷ map Apart q ∷ map Unlinked r ∷ [])
+unfoldable pub fixed_by : Bool → ℕ → Option ℕ → Option ℕ → Option ℕ → Option ℕ → Shape
+fixed_by b n o p q r = first Whole (given b (Few n) ∷ map (by_ends Once) o ∷ map (by_ends Often) p ∷ map Apart q ∷ map Unlinked r ∷ [])
 
-pub fixed-by : (ps : List Polygon) → fixedShape ps ≡ fixedBy (ltb (length ps) 4) (length ps) (usedOnce (allRings ps)) (usedOften (allRings ps)) (notReached ps) (notLinked ps)
-unfolding fixedShape fixedBy
-fixed-by ps = refl
+pub fixed_by_lem : (ps : List Polygon) → fixed_shape ps ≡ fixed_by (ltb (length ps) 4) (length ps) (used_once (all_rings ps)) (used_often (all_rings ps)) (not_reached ps) (not_linked ps)
+unfolding fixed_shape fixed_by
+fixed_by_lem ps = refl

@@ -9,31 +9,31 @@ use Rattle.std.proofs.Math.ListN.{get_or-map}
 use Rattle.whole.specs.laws.Bools.{and_left, and_right}
 use Rattle.whole.specs.laws.Stores.{cases}
 use Rattle.edges.specs.Edges.{count}
-use Rattle.edges.specs.laws.Tallies.{tally-cons, tally-nil, one-yes, one-no}
-use Rattle.words.specs.held.Words.{keyOf}
+use Rattle.edges.specs.laws.Tallies.{tally_cons, tally_nil, one_yes, one_no}
+use Rattle.words.specs.held.Words.{key_from}
 use Rattle.edges.specs.held.Ascending.{Asc}
-use Rattle.edges.specs.laws.Ascending.{places-asc}
+use Rattle.edges.specs.laws.Ascending.{places_asc}
 use Rattle.edges.specs.held.Steps.{SortedTo}
 use Rattle.shell.specs.held.Runs.{RunEnd, Between, LeastAt, Twice}
 
 -- a list's count of k, by whether its head is k
 pub count_yes : (k x : ℕ) (l : List ℕ) → x ≡ k → count k (x ∷ l) ≡ suc (count k l)
 unfolding count
-count_yes k x l e = tally-cons (eqb k) x l ∙ omega (arith, one-yes (eqb k) x (eq-eqb k x (sym e)))
+count_yes k x l e = tally_cons (eqb k) x l ∙ omega (arith, one_yes (eqb k) x (eq-eqb k x (sym e)))
 
 pub count_no : (k x : ℕ) (l : List ℕ) → x ≢ k → count k (x ∷ l) ≡ count k l
 unfolding count
-count_no k x l n = tally-cons (eqb k) x l ∙ omega (arith, one-no (eqb k) x (ne_eqb k x (λ e. n (sym e))))
+count_no k x l n = tally_cons (eqb k) x l ∙ omega (arith, one_no (eqb k) x (ne_eqb k x (λ e. n (sym e))))
 
-count-nil : (k : ℕ) → count k [] ≡ 0
+count_nil : (k : ℕ) → count k [] ≡ 0
 unfolding count
-count-nil k = tally-nil (eqb k)
+count_nil k = tally_nil (eqb k)
 
 sorted_tail : (x : ℕ) (l : List ℕ) → SortedTo (x ∷ l) (length (x ∷ l)) → SortedTo l (length l)
 sorted_tail x l s p q pq ql = s (suc p) (suc q) (suc-le-suc pq) (suc-le-suc ql)
 
-pub count-le : (k x : ℕ) (l : List ℕ) → count k l ≤ count k (x ∷ l)
-count-le k x l = by_cases (ℕ_discrete x k) (λ e. omega (arith, count_yes k x l e)) (λ n. omega (arith, count_no k x l n))
+pub count_le : (k x : ℕ) (l : List ℕ) → count k l ≤ count k (x ∷ l)
+count_le k x l = by_cases (ℕ_discrete x k) (λ e. omega (arith, count_yes k x l e)) (λ n. omega (arith, count_no k x l n))
 
 -- m + 1 places of a sorted list, from `at` to `end`, hold k
 pub record Stretch (k : ℕ) (l : List ℕ) (m : ℕ) : Type 0 where
@@ -55,7 +55,7 @@ later k x m l s = record {
 }
 
 pub stretch : (k m : ℕ) (l : List ℕ) → SortedTo l (length l) → suc m ≤ count k l → Stretch k l m
-stretch k m [] s h = absurd (none (count-nil k))
+stretch k m [] s h = absurd (none (count_nil k))
   where
     none : count k [] ≡ 0 → ⊥
     none e = omega arith
@@ -72,24 +72,24 @@ stretch k m (x ∷ l) s h = go m h (ℕ_discrete x k) (λ m' h'. stretch k m' l 
         record { at = 0; end = suc m; long = omega arith; within = suc-le-suc w; left = e; right = omega (arith, r.right) }
 
 -- the other way round
-pub stretch-count : (k m : ℕ) (l : List ℕ) → SortedTo l (length l) → (i j : ℕ) → j ≡ i + m → j < length l → get_or l i 0 ≡ k → get_or l j 0 ≡ k → suc m ≤ count k l
-stretch-count k m [] s i j e h a b = absurd (not-suc-le-zero h)
-stretch-count k m (x ∷ l) s (suc i) zero e h a b = omega arith
-stretch-count k m (x ∷ l) s (suc i) (suc j) e h a b =
-    omega (arith, stretch-count k m l (sorted_tail x l s) i j (omega arith) (le_of_suc-le-suc h) a b, count-le k x l)
-stretch-count k zero (x ∷ l) s zero j e h a b = omega (arith, count_yes k x l a)
-stretch-count k (suc m) (x ∷ l) s zero zero e h a b = omega arith
-stretch-count k (suc m) (x ∷ l) s zero (suc j) e h a b =
+pub stretch_count : (k m : ℕ) (l : List ℕ) → SortedTo l (length l) → (i j : ℕ) → j ≡ i + m → j < length l → get_or l i 0 ≡ k → get_or l j 0 ≡ k → suc m ≤ count k l
+stretch_count k m [] s i j e h a b = absurd (not-suc-le-zero h)
+stretch_count k m (x ∷ l) s (suc i) zero e h a b = omega arith
+stretch_count k m (x ∷ l) s (suc i) (suc j) e h a b =
+    omega (arith, stretch_count k m l (sorted_tail x l s) i j (omega arith) (le_of_suc-le-suc h) a b, count_le k x l)
+stretch_count k zero (x ∷ l) s zero j e h a b = omega (arith, count_yes k x l a)
+stretch_count k (suc m) (x ∷ l) s zero zero e h a b = omega arith
+stretch_count k (suc m) (x ∷ l) s zero (suc j) e h a b =
     let u : x ≤ get_or l 0 0 = s 0 1 zero-le (omega arith) in
     let v : get_or l 0 0 ≤ get_or l j 0 = s 1 (suc j) (omega arith) h in
-    omega (arith, count_yes k x l a, stretch-count k m l (sorted_tail x l s) 0 j (omega arith) (le_of_suc-le-suc h) (omega arith) b)
+    omega (arith, count_yes k x l a, stretch_count k m l (sorted_tail x l s) 0 j (omega arith) (le_of_suc-le-suc h) (omega arith) b)
 
 -- a run that begins where a larger number than all before stands is as long as its number's count
 pub run-count : (l : List ℕ) → SortedTo l (length l) → (i r : ℕ) → ((p : ℕ) → p < i → get_or l p 0 < get_or l i 0) → RunEnd l i r → count (get_or l i 0) l ≡ r - i
 run-count l s i r fresh e = le_antisymm above below
   where
     below : r - i ≤ count (get_or l i 0) l
-    below = omega (arith, stretch-count (get_or l i 0) (r - i - 1) l s i (r - 1) (omega (arith, e.above)) (omega (arith, e.above, e.within)) refl (e.same (r - 1) (omega (arith, e.above)) (omega (arith, e.above))), e.above)
+    below = omega (arith, stretch_count (get_or l i 0) (r - i - 1) l s i (r - 1) (omega (arith, e.above)) (omega (arith, e.above, e.within)) refl (e.same (r - 1) (omega (arith, e.above)) (omega (arith, e.above))), e.above)
 
     over : Stretch (get_or l i 0) l (r - i) → ⊥
     over t =
@@ -128,8 +128,8 @@ module _ (least most : ℕ) (l : List ℕ) (i : ℕ) (s : SortedTo l (length l))
   place : (k : ℕ) → Between least most l k → Stretch k l 0
   place k b = stretch k 0 l s (omega (arith, b.enough))
 
-  pub find-out : length l ≤ i → LeastAt (Between least most l) l i
-  find-out h = record {
+  pub find_out : length l ≤ i → LeastAt (Between least most l) l i
+  find_out h = record {
     within = f.within;
     found = λ lt. absurd (no_both lt);
     missing = λ _ k b. let t = place k b in f.passed k b t.end (omega (arith, t.within)) t.right;
@@ -177,12 +177,12 @@ module _ (least most : ℕ) (l : List ℕ) (i : ℕ) (s : SortedTo l (length l))
 abbrev pub Pairing : List ℕ → ℕ → Type 0
 Pairing l i = (least most : ℕ) → 1 ≤ least → ((least ≤ 2) × (2 ≤ most) → ⊥) → Finding least most l i
 
-pub pairing-none : (l : List ℕ) → Pairing l 0
-pairing-none l least most some bad = find_none least most l
+pub pairing_none : (l : List ℕ) → Pairing l 0
+pairing_none l least most some bad = find_none least most l
 
 -- the run of two words that begins at i
-pub pair-run : (l : List ℕ) (i : ℕ) → i + 1 < length l → get_or l (i + 1) 0 ≡ get_or l i 0 → (i + 2 < length l → get_or l (i + 2) 0 ≡ get_or l i 0 → ⊥) → RunEnd l i (i + 2)
-pair-run l i h e d = record {
+pub pair_run : (l : List ℕ) (i : ℕ) → i + 1 < length l → get_or l (i + 1) 0 ≡ get_or l i 0 → (i + 2 < length l → get_or l (i + 2) 0 ≡ get_or l i 0 → ⊥) → RunEnd l i (i + 2)
+pair_run l i h e d = record {
   above = omega arith;
   within = omega arith;
   same = λ k a b. same_more l i (i + 1) (same-one l i) e k a (omega arith);
@@ -190,13 +190,13 @@ pair-run l i h e d = record {
 }
 
 module _ (l : List ℕ) (i : ℕ) (s : SortedTo l (length l)) (f : Pairing l i) where
-  pub pairing-more : i < length l → RunEnd l i (i + 2) → Pairing l (i + 2)
-  pairing-more h e least most some bad = find-more least most l i s some (f least most some bad) (i + 2) h e (λ b. bad (omega (arith, b.0), omega (arith, b.1)))
+  pub pairing_more : i < length l → RunEnd l i (i + 2) → Pairing l (i + 2)
+  pairing_more h e least most some bad = find-more least most l i s some (f least most some bad) (i + 2) h e (λ b. bad (omega (arith, b.0), omega (arith, b.1)))
 
   pub twice-paired : length l ≤ i → Twice l
   twice-paired h k some =
       by_cases (ℕ_discrete (count k l) 2) (λ e. e)
-      (λ n. absurd ((find-out (count k l) (count k l) l i s some (f (count k l) (count k l) some (λ b. n (le_antisymm b.0 b.1))) h).missing h k (record { enough = le_refl (count k l); few = le_refl (count k l) })))
+      (λ n. absurd ((find_out (count k l) (count k l) l i s some (f (count k l) (count k l) some (λ b. n (le_antisymm b.0 b.1))) h).missing h k (record { enough = le_refl (count k l); few = le_refl (count k l) })))
 
 pub twice-none : (l : List ℕ) → Twice l → (least most : ℕ) → 1 ≤ least → ((least ≤ 2) × (2 ≤ most) → ⊥) → LeastAt (Between least most l) l (length l)
 twice-none l t least most some bad = record {
@@ -212,37 +212,37 @@ twice-none l t least most some bad = record {
     two k b = t k (omega (arith, b.enough))
 
 -- the keys of words, place by place
-pub key-at : (l : List ℕ) (i : ℕ) → get_or (map keyOf l) i 0 ≡ keyOf (get_or l i 0)
-key-at l i = get_or-map keyOf l i 0
+pub key_at : (l : List ℕ) (i : ℕ) → get_or (map key_from l) i 0 ≡ key_from (get_or l i 0)
+key_at l i = get_or-map key_from l i 0
 
-pub keys-same : (l : List ℕ) (i j a b : ℕ) → a ≡ keyOf (get_or l j 0) → b ≡ keyOf (get_or l i 0) → a ≡ b → get_or (map keyOf l) j 0 ≡ get_or (map keyOf l) i 0
-keys-same l i j a b x y e = key-at l j ∙ (sym x ∙ (e ∙ (y ∙ sym (key-at l i))))
+pub keys_same : (l : List ℕ) (i j a b : ℕ) → a ≡ key_from (get_or l j 0) → b ≡ key_from (get_or l i 0) → a ≡ b → get_or (map key_from l) j 0 ≡ get_or (map key_from l) i 0
+keys_same l i j a b x y e = key_at l j ∙ (sym x ∙ (e ∙ (y ∙ sym (key_at l i))))
 
-pub keys-differ : (l : List ℕ) (i j a b : ℕ) → a ≡ keyOf (get_or l j 0) → b ≡ keyOf (get_or l i 0) → (a ≡ b → ⊥) → get_or (map keyOf l) j 0 ≡ get_or (map keyOf l) i 0 → ⊥
-keys-differ l i j a b x y d e = d (x ∙ (sym (key-at l j) ∙ (e ∙ (key-at l i ∙ sym y))))
+pub keys_differ : (l : List ℕ) (i j a b : ℕ) → a ≡ key_from (get_or l j 0) → b ≡ key_from (get_or l i 0) → (a ≡ b → ⊥) → get_or (map key_from l) j 0 ≡ get_or (map key_from l) i 0 → ⊥
+keys_differ l i j a b x y d e = d (x ∙ (sym (key_at l j) ∙ (e ∙ (key_at l i ∙ sym y))))
 
 -- words in order have keys in order
-pub keys-sorted : (l : List ℕ) → Asc l → SortedTo (map keyOf l) (length (map keyOf l))
-keys-sorted l a p q h k = rw (key-at l p, key-at l q) (le-key (get_or l p 0) (get_or l q 0) (places-asc l a p q h (rw length-map at k)))
+pub keys_sorted : (l : List ℕ) → Asc l → SortedTo (map key_from l) (length (map key_from l))
+keys_sorted l a p q h k = rw (key_at l p, key_at l q) (le-key (get_or l p 0) (get_or l q 0) (places_asc l a p q h (rw length-map at k)))
   where
-    le-key : (x y : ℕ) → x ≤ y → keyOf x ≤ keyOf y
+    le-key : (x y : ℕ) → x ≤ y → key_from x ≤ key_from y
     le-key x y h = omega arith
 
-pub key_below : (l : List ℕ) (i : ℕ) → i < length l → i < length (map keyOf l)
+pub key_below : (l : List ℕ) (i : ℕ) → i < length l → i < length (map key_from l)
 key_below l i h = rw length-map h
 
-pub key_above : (l : List ℕ) (i : ℕ) → length l ≤ i → length (map keyOf l) ≤ i
+pub key_above : (l : List ℕ) (i : ℕ) → length l ≤ i → length (map key_from l) ≤ i
 key_above l i h = rw length-map h
 
 -- what a sweep by pairs knows at i, where `two` says whether all before were pairs
 pub record Sweeping (l : List ℕ) (i : ℕ) (two : Bool) : Type 0 where
   pub within : i ≤ length l
   pub ended : i ≡ length l → l ≡ []
-  pub pairs : two ≡ true → Pairing (map keyOf l) i
-  pub others : two ≡ false → Twice (map keyOf l) → ⊥
+  pub pairs : two ≡ true → Pairing (map key_from l) i
+  pub others : two ≡ false → Twice (map key_from l) → ⊥
 
-pub sweeping-none : (l : List ℕ) → Sweeping l 0 true
-sweeping-none l = record { within = zero-le; ended = none l; pairs = λ _. pairing-none (map keyOf l); others = λ e. absurd (true≢false e) }
+pub sweeping_none : (l : List ℕ) → Sweeping l 0 true
+sweeping_none l = record { within = zero-le; ended = none l; pairs = λ _. pairing_none (map key_from l); others = λ e. absurd (true≢false e) }
   where
     none : (l : List ℕ) → 0 ≡ length l → l ≡ []
     none [] e = refl
@@ -250,70 +250,70 @@ sweeping-none l = record { within = zero-le; ended = none l; pairs = λ _. pairi
 
 module _ (l : List ℕ) (asc : Asc l) (i : ℕ) (two : Bool) (f : Sweeping l i two) (h : i < length l) where
   -- a word whose edge has no other
-  lone-fails : two ≡ true → (i + 1 < length (map keyOf l) → get_or (map keyOf l) (i + 1) 0 ≡ get_or (map keyOf l) i 0 → ⊥) → Twice (map keyOf l) → ⊥
-  lone-fails e stop t =
-      let run : RunEnd (map keyOf l) i (i + 1) = record { above = omega arith; within = omega (arith, key_below l i h); same = same-one (map keyOf l) i; stop = stop } in
+  lone_fails : two ≡ true → (i + 1 < length (map key_from l) → get_or (map key_from l) (i + 1) 0 ≡ get_or (map key_from l) i 0 → ⊥) → Twice (map key_from l) → ⊥
+  lone_fails e stop t =
+      let run : RunEnd (map key_from l) i (i + 1) = record { above = omega arith; within = omega (arith, key_below l i h); same = same-one (map key_from l) i; stop = stop } in
       let fresh = (f.pairs e 1 1 (le_refl 1) (λ b. never b.1)).fresh (key_below l i h) in
-      let one : count (get_or (map keyOf l) i 0) (map keyOf l) ≡ 1 = run-count (map keyOf l) (keys-sorted l asc) i (i + 1) fresh run ∙ omega arith in
-      let both : count (get_or (map keyOf l) i 0) (map keyOf l) ≡ 2 = t (get_or (map keyOf l) i 0) (omega arith) in
+      let one : count (get_or (map key_from l) i 0) (map key_from l) ≡ 1 = run-count (map key_from l) (keys_sorted l asc) i (i + 1) fresh run ∙ omega arith in
+      let both : count (get_or (map key_from l) i 0) (map key_from l) ≡ 2 = t (get_or (map key_from l) i 0) (omega arith) in
       omega arith
     where
       never : 2 ≤ 1 → ⊥
       never le = omega arith
 
-  last-fails : length l ≡ i + 1 → Twice (map keyOf l) → ⊥
-  last-fails e = cases two (λ y. lone-fails y (λ lt. absurd (past (rw length-map at lt)))) (λ n. f.others n)
+  last_fails : length l ≡ i + 1 → Twice (map key_from l) → ⊥
+  last_fails e = cases two (λ y. lone_fails y (λ lt. absurd (past (rw length-map at lt)))) (λ n. f.others n)
     where
       past : i + 1 < length l → ⊥
       past lt = omega arith
 
-  module _ (a b : ℕ) (ha : a ≡ keyOf (get_or l i 0)) (hb : b ≡ keyOf (get_or l (i + 1) 0)) (h₁ : i + 1 < length l) where
-    pair-here : (two && eqb a b) ≡ true → (i + 2 < length (map keyOf l) → get_or (map keyOf l) (i + 2) 0 ≡ get_or (map keyOf l) i 0 → ⊥) → Pairing (map keyOf l) (i + 2)
+  module _ (a b : ℕ) (ha : a ≡ key_from (get_or l i 0)) (hb : b ≡ key_from (get_or l (i + 1) 0)) (h₁ : i + 1 < length l) where
+    pair-here : (two && eqb a b) ≡ true → (i + 2 < length (map key_from l) → get_or (map key_from l) (i + 2) 0 ≡ get_or (map key_from l) i 0 → ⊥) → Pairing (map key_from l) (i + 2)
     pair-here e stop =
         let same : b ≡ a = sym (eqb-true a b (and_right two (eqb a b) e)) in
-        pairing-more (map keyOf l) i (keys-sorted l asc) (f.pairs (and_left two (eqb a b) e)) (key_below l i h) (pair-run (map keyOf l) i (key_below l (i + 1) h₁) (keys-same l i (i + 1) b a hb ha same) stop)
+        pairing_more (map key_from l) i (keys_sorted l asc) (f.pairs (and_left two (eqb a b) e)) (key_below l i h) (pair_run (map key_from l) i (key_below l (i + 1) h₁) (keys_same l i (i + 1) b a hb ha same) stop)
 
-    pair-fails : (two && eqb a b) ≡ false → Twice (map keyOf l) → ⊥
-    pair-fails e = cases two (λ y. lone-fails y (λ _. keys-differ l i (i + 1) b a hb ha (λ z. eqb-false a b (sym (ap (λ (t : Bool). t && eqb a b) y) ∙ e) (sym z)))) (λ n. f.others n)
+    pair-fails : (two && eqb a b) ≡ false → Twice (map key_from l) → ⊥
+    pair-fails e = cases two (λ y. lone_fails y (λ _. keys_differ l i (i + 1) b a hb ha (λ z. eqb-false a b (sym (ap (λ (t : Bool). t && eqb a b) y) ∙ e) (sym z)))) (λ n. f.others n)
 
-    pub pair-last : i + 2 ≡ length l → ((two && eqb a b) ≡ true → Twice (map keyOf l)) × ((two && eqb a b) ≡ false → Twice (map keyOf l) → ⊥)
+    pub pair-last : i + 2 ≡ length l → ((two && eqb a b) ≡ true → Twice (map key_from l)) × ((two && eqb a b) ≡ false → Twice (map key_from l) → ⊥)
     pair-last z = (
-      (λ e. twice-paired (map keyOf l) (i + 2) (keys-sorted l asc) (pair-here e (λ lt. absurd (past (rw length-map at lt)))) (key_above l (i + 2) (omega arith))),
+      (λ e. twice-paired (map key_from l) (i + 2) (keys_sorted l asc) (pair-here e (λ lt. absurd (past (rw length-map at lt)))) (key_above l (i + 2) (omega arith))),
       pair-fails,
     )
       where
         past : i + 2 < length l → ⊥
         past lt = omega arith
 
-    pub pair-next : (c : ℕ) → c ≡ keyOf (get_or l (i + 2) 0) → i + 2 < length l → Sweeping l (i + 2) ((two && eqb a b) && not (eqb b c))
+    pub pair-next : (c : ℕ) → c ≡ key_from (get_or l (i + 2) 0) → i + 2 < length l → Sweeping l (i + 2) ((two && eqb a b) && not (eqb b c))
     pair-next c hc h₂ = record {
       within = omega arith;
       ended = λ e. absurd (short e);
       pairs = λ e.
           let pair : (two && eqb a b) ≡ true = and_left (two && eqb a b) (not (eqb b c)) e in
-          pair-here pair (λ _. keys-differ l i (i + 2) c a hc ha (λ z. eqb-false b c (not-true (eqb b c) (and_right (two && eqb a b) (not (eqb b c)) e)) (sym (eqb-true a b (and_right two (eqb a b) pair)) ∙ sym z)));
+          pair-here pair (λ _. keys_differ l i (i + 2) c a hc ha (λ z. eqb-false b c (not-true (eqb b c) (and_right (two && eqb a b) (not (eqb b c)) e)) (sym (eqb-true a b (and_right two (eqb a b) pair)) ∙ sym z)));
       others = λ e. cases (two && eqb a b) (λ y. three y (not-false (eqb b c) (sym (ap (λ (t : Bool). t && not (eqb b c)) y) ∙ e))) pair-fails;
     }
       where
         short : i + 2 ≡ length l → ⊥
         short e = omega arith
 
-        three : (two && eqb a b) ≡ true → eqb b c ≡ true → Twice (map keyOf l) → ⊥
+        three : (two && eqb a b) ≡ true → eqb b c ≡ true → Twice (map key_from l) → ⊥
         three y z t =
-            let same : get_or (map keyOf l) (i + 2) 0 ≡ get_or (map keyOf l) i 0 = keys-same l i (i + 2) c a hc ha (sym (eqb-true a b (and_right two (eqb a b) y) ∙ eqb-true b c z)) in
-            let many : 3 ≤ count (get_or (map keyOf l) i 0) (map keyOf l) = stretch-count (get_or (map keyOf l) i 0) 2 (map keyOf l) (keys-sorted l asc) i (i + 2) refl (key_below l (i + 2) h₂) refl same in
-            let both : count (get_or (map keyOf l) i 0) (map keyOf l) ≡ 2 = t (get_or (map keyOf l) i 0) (omega arith) in
+            let same : get_or (map key_from l) (i + 2) 0 ≡ get_or (map key_from l) i 0 = keys_same l i (i + 2) c a hc ha (sym (eqb-true a b (and_right two (eqb a b) y) ∙ eqb-true b c z)) in
+            let many : 3 ≤ count (get_or (map key_from l) i 0) (map key_from l) = stretch_count (get_or (map key_from l) i 0) 2 (map key_from l) (keys_sorted l asc) i (i + 2) refl (key_below l (i + 2) h₂) refl same in
+            let both : count (get_or (map key_from l) i 0) (map key_from l) ≡ 2 = t (get_or (map key_from l) i 0) (omega arith) in
             omega arith
 
 -- a sweep that ends without a last pair: no words, or one more than pairs
-pub unpaired : (l : List ℕ) → Asc l → (i : ℕ) (two : Bool) → Sweeping l i two → length l ≤ i + 2 → (i + 2 ≡ length l → ⊥) → (eqb i (length l) ≡ true → Twice (map keyOf l)) × (eqb i (length l) ≡ false → Twice (map keyOf l) → ⊥)
+pub unpaired : (l : List ℕ) → Asc l → (i : ℕ) (two : Bool) → Sweeping l i two → length l ≤ i + 2 → (i + 2 ≡ length l → ⊥) → (eqb i (length l) ≡ true → Twice (map key_from l)) × (eqb i (length l) ≡ false → Twice (map key_from l) → ⊥)
 unpaired l asc i two f h n = (
   (λ e k some. absurd (none k (rw (f.ended (eqb-true i (length l) e)) at some))),
-  (λ e. last-fails l asc i two f (below (eqb-false i (length l) e)) (next (eqb-false i (length l) e))),
+  (λ e. last_fails l asc i two f (below (eqb-false i (length l) e)) (next (eqb-false i (length l) e))),
 )
   where
     none : (k : ℕ) → 1 ≤ count k [] → ⊥
-    none k le = omega (arith, count-nil k)
+    none k le = omega (arith, count_nil k)
 
     below : (i ≡ length l → ⊥) → i < length l
     below d = omega (arith, f.within)

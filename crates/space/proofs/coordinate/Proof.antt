@@ -2,7 +2,7 @@
 use Prim.Native.Nat.{◌+◌, ◌*◌}
 use mathlib.Core.Path.{◌∙◌}
 use mir.Syntax.{w32, w64}
-use Rattle.whole.specs.laws.Size.{small-back, call-is}
+use Rattle.whole.specs.laws.Size.{small_back, call_is}
 use borrow.Author.Rules.{rules}
 use Rattle.space.proofs.coordinate.Statement.{statement}
 use Rattle.space.proofs.coordinate.Tie as tie
@@ -25,7 +25,7 @@ long-requires c κs = search rules
 returns : tie.Need-returns
 returns c =
     let s = c.before.before in
-    call-is w64 c.long.type-inv (c.long.ensures ∙ small-back w32 tt (s.requires.0.small (3 * s.args.p + s.args.k)))
+    call_is w64 c.long.type-inv (c.long.ensures ∙ small_back w32 tt (s.requires.0.small (3 * s.args.p + s.args.k)))
 
 pub coordinate-spec : {M : Type 1} → statement M
 coordinate-spec =

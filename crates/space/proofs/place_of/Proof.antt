@@ -2,7 +2,7 @@
 use Prim.Native.Nat.{◌+◌, ◌*◌}
 use mathlib.Core.Path.{◌∙◌}
 use mir.Syntax.{w32, w64}
-use Rattle.whole.specs.laws.Size.{small-back, call-is}
+use Rattle.whole.specs.laws.Size.{small_back, call_is}
 use Rattle.space.specs.held.Points.{at}
 use borrow.Author.Rules.{rules}
 use Rattle.space.proofs.place_of.Statement.{statement}
@@ -50,9 +50,9 @@ returns c =
     let small = s.requires.0.small in
     let i = 3 * s.args.p in
     λ k. at
-    (call-is w64 c.before.before.before.before.long.type-inv (c.before.before.before.before.long.ensures ∙ small-back w32 tt (small i)) k)
-    (call-is w64 c.before.before.long2.type-inv (c.before.before.long2.ensures ∙ small-back w32 tt (small (i + 1))) k)
-    (call-is w64 c.long3.type-inv (c.long3.ensures ∙ small-back w32 tt (small (i + 2))) k)
+    (call_is w64 c.before.before.before.before.long.type-inv (c.before.before.before.before.long.ensures ∙ small_back w32 tt (small i)) k)
+    (call_is w64 c.before.before.long2.type-inv (c.before.before.long2.ensures ∙ small_back w32 tt (small (i + 1))) k)
+    (call_is w64 c.long3.type-inv (c.long3.ensures ∙ small_back w32 tt (small (i + 2))) k)
 
 pub place-of-spec : {M : Type 1} → statement M
 place-of-spec =

@@ -6,7 +6,7 @@ use Rattle.whole.specs.laws.Mach.{Leaf, asks, yields}
 use Rattle.whole.specs.laws.Solve.{v, ◌⊖◌}
 use Rattle.space.specs.laws.Sizes.{near-place}
 use Rattle.space.specs.held.Points.{at}
-use Rattle.space.specs.Space.{relativeTo}
+use Rattle.space.specs.Space.{relative_to}
 use Rattle.space.specs.laws.Numbers.{returned}
 use Rattle.space.proofs.toward.Statement.{statement}
 use Rattle.space.proofs.toward.Tie as tie
@@ -34,7 +34,7 @@ sub-z : tie.Need-overflow-sub-z
 sub-z c = asks w64 (leaves c) (v 5 ⊖ v 2) tt
 
 returns : tie.Need-returns
-unfolding relativeTo
+unfolding relative_to
 returns c = λ j. at (yields w64 (leaves c) (v 3 ⊖ v 0) tt j) (yields w64 (leaves c) (v 4 ⊖ v 1) tt j) (yields w64 (leaves c) (v 5 ⊖ v 2) tt j)
 
 pub toward-spec : {M : Type 1} → statement M

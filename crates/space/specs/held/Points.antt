@@ -22,16 +22,16 @@ pub record Known (ring : List ℕ) : Type 0 where
   pub each : (i : ℕ) → i < length ring → get_or ring i 0 < 512
 
 -- point p is the numbers 3p, 3p + 1, 3p + 2
-abbrev pub placeAt : List ℤ → ℕ → Point
-placeAt flat p = record { x = get_or flat (3 * p) (pos 0); y = get_or flat (3 * p + 1) (pos 0); z = get_or flat (3 * p + 2) (pos 0) }
+abbrev pub place_at : List ℤ → ℕ → Point
+place_at flat p = record { x = get_or flat (3 * p) (pos 0); y = get_or flat (3 * p + 1) (pos 0); z = get_or flat (3 * p + 2) (pos 0) }
 
 -- the point of three numbers
 abbrev pub at : ℤ → ℤ → ℤ → Point
 at x y z = record { x = x; y = y; z = z }
 
 -- the point that code holds as a `Place`
-abbrev pub asPoint : Place → Point
-asPoint p = at p.x p.y p.z
+abbrev pub as_point : Place → Point
+as_point p = at p.x p.y p.z
 
 -- a point's numbers are at most n in size
 pub record Near (n : ℕ) (p : Point) : Type 0 where

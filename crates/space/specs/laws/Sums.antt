@@ -3,25 +3,25 @@ use Rattle.std.specs.Prelude.{ℕ, zero, suc, ◌+◌, ◌*◌, ◌≤◌, ◌<�
 use Rattle.std.proofs.Common.{arith, sym, ap, subst}
 use Rattle.std.specs.Int.{w64}
 use mir.Val.{to_z, of_z, hbits}
-use Rattle.whole.specs.Lists.{stepsFrom, sum_of}
+use Rattle.whole.specs.Lists.{steps_from, sum_of}
 use Rattle.whole.specs.held.Small.{Small}
 use Rattle.whole.specs.laws.Solve.{v, ◌⊕◌}
 use Rattle.whole.specs.laws.Mach.{Leaf, whole, bits_of, yields}
-use Rattle.whole.specs.laws.Sum.{next, Acc, acc-step, acc-small}
+use Rattle.whole.specs.laws.Sum.{next, Acc, acc_step, acc_small}
 use Rattle.space.specs.held.Points.{Known}
 
 -- ---- how far a loop has come: entry i of n is next, and last was before it
 pub record Going (ring : List ℕ) (n first last i : ℕ) : Type 0 where
   pub all : n ≡ length ring
   pub upto : i ≤ n
-  pub head-known : first < 512
-  pub last-known : last < 512
+  pub head_known : first < 512
+  pub last_known : last < 512
 
 pub going_start : {ring : List ℕ} {n : ℕ} → Known ring → n ≡ length ring → (n ≡ 0 → ⊥) → Going ring n (get_or ring 0 0) (get_or ring 0 0) 1
 going_start {ring} {n} k e f =
     let l : 1 ≤ n = positive n f in
     let h : get_or ring 0 0 < 512 = k.each 0 (omega arith) in
-    record { all = e; upto = l; head-known = h; last-known = h }
+    record { all = e; upto = l; head_known = h; last_known = h }
   where
     positive : (n : ℕ) → (n ≡ 0 → ⊥) → 1 ≤ n
     positive zero f = absurd (f refl)
@@ -32,13 +32,13 @@ going_next {ring} {n} {first} {last} {i} k g h =
     record {
       all = g.all;
       upto = omega arith;
-      head-known = g.head-known;
-      last-known = k.each i (omega (arith, g.all));
+      head_known = g.head_known;
+      last_known = k.each i (omega (arith, g.all));
     }
 
 -- ---- one sum: what is summed so far and what is next, as the machine sees them
 abbrev pub two : {f : ℕ → ℕ → ℤ} {total : ℤ} {l : List ℕ} {p i m : ℕ} (b : ℕ) → T (ltb m (2 ^ hbits w64)) → Acc f m total l p i (to_z w64 b) → i ≤ 128 → {r : ℤ} → Small m r → List Leaf
-two b t a le s = bits_of w64 b refl (acc-small 128 a le) ∷ whole w64 t s ∷ []
+two b t a le s = bits_of w64 b refl (acc_small 128 a le) ∷ whole w64 t s ∷ []
 
 -- one turn of the loop
 pub turn : {f : ℕ → ℕ → ℤ} {total : ℤ} {l : List ℕ} {p i m : ℕ} (b : ℕ) → T (ltb m (2 ^ hbits w64)) → T (ltb (m * 128 + m) (2 ^ hbits w64) && (true && true))
@@ -47,17 +47,17 @@ pub turn : {f : ℕ → ℕ → ℤ} {total : ℤ} {l : List ℕ} {p i m : ℕ} 
 turn {f} {total} {l} {p} {i} {m} b t t' a lt few r e s =
     subst (λ (z : ℤ). Acc f m total l (get_or l i 0) (i + 1) z)
     (sym (yields w64 (two b t a (omega arith) s) (v 0 ⊕ v 1) t'))
-    (acc-step a lt r e (subst (λ (z : ℤ). Small m z) e s))
+    (acc_step a lt r e (subst (λ (z : ℤ). Small m z) e s))
 
 -- a sum over the steps of places is one over the entries
-pub steps_next : {A : Type 0} (g : ℕ → A) (f : A → A → ℤ) (p : ℕ) (l : List ℕ) → sum_of (λ s. f s.0 s.1) (stepsFrom (g p) (map g l)) ≡ next (λ a b. f (g a) (g b)) p l
-unfolding sum_of stepsFrom next
+pub steps_next : {A : Type 0} (g : ℕ → A) (f : A → A → ℤ) (p : ℕ) (l : List ℕ) → sum_of (λ s. f s.0 s.1) (steps_from (g p) (map g l)) ≡ next (λ a b. f (g a) (g b)) p l
+unfolding sum_of steps_from next
 steps_next g f p [] = refl
 steps_next g f p (q ∷ l) = ap (λ (z : ℤ). f (g p) (g q) +ℤ z) (steps_next g f q l)
 
 -- it is within the ring, and few have been passed
-pub going-few : {ring : List ℕ} {n first last i : ℕ} → Known ring → Going ring n first last i → i ≤ 128
-going-few k g = omega (arith, k.few, g.all, g.upto)
+pub going_few : {ring : List ℕ} {n first last i : ℕ} → Known ring → Going ring n first last i → i ≤ 128
+going_few k g = omega (arith, k.few, g.all, g.upto)
 
-pub going-in : {ring : List ℕ} {n first last i : ℕ} → Going ring n first last i → i < n → i < length ring
-going-in g l = omega (arith, g.all)
+pub going_in : {ring : List ℕ} {n first last i : ℕ} → Going ring n first last i → i < n → i < length ring
+going_in g l = omega (arith, g.all)

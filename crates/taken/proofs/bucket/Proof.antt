@@ -1,21 +1,21 @@
 -- `taken::bucket` meets its contract: what is lifted is at most 200,000, so that the sum of the products stays below 2^64.
 use native.Mathlib.Omega.{arith}
 use mir.Syntax.{w64}
-use Rattle.whole.specs.laws.Size.{back-small}
+use Rattle.whole.specs.laws.Size.{back_small}
 use Rattle.places.specs.held.Places.{point3}
 use Rattle.places.specs.laws.Near.{near-place}
-use Rattle.taken.specs.laws.Buckets.{told-few, bucket-is}
+use Rattle.taken.specs.laws.Buckets.{told-few, bucket_is}
 use Rattle.taken.proofs.bucket.Statement.{statement}
 use Rattle.taken.proofs.bucket.Tie as tie
 
 lifted-requires : tie.Need-lifted-requires
-lifted-requires c κs = back-small w64 tt (near-place _ c.requires).x
+lifted-requires c κs = back_small w64 tt (near-place _ c.requires).x
 
 mul-sum : tie.Need-overflow-mul-sum
 mul-sum c = record { fits = omega (arith, told-few (near-place _ c.before.requires).x c.lifted.ensures) }
 
 lifted-requires-2 : tie.Need-lifted-requires-2
-lifted-requires-2 c κs = back-small w64 tt (near-place _ c.before.requires).y
+lifted-requires-2 c κs = back_small w64 tt (near-place _ c.before.requires).y
 
 mul-sum-2 : tie.Need-overflow-mul-sum-2
 mul-sum-2 c = record { fits = omega (arith, told-few (near-place _ c.before.before.requires).y c.lifted2.ensures) }
@@ -26,7 +26,7 @@ add-sum c =
     record { fits = omega (arith, told-few n.x c.before.lifted.ensures, told-few n.y c.lifted2.ensures) }
 
 lifted-requires-3 : tie.Need-lifted-requires-3
-lifted-requires-3 c κs = back-small w64 tt (near-place _ c.before.before.requires).z
+lifted-requires-3 c κs = back_small w64 tt (near-place _ c.before.before.requires).z
 
 mul-sum-3 : tie.Need-overflow-mul-sum-3
 mul-sum-3 c = record { fits = omega (arith, told-few (near-place _ c.before.before.before.requires).z c.lifted3.ensures) }
@@ -39,7 +39,7 @@ add-sum-2 c =
 returns : tie.Need-returns
 returns c =
     let s = c.before.before.before in
-    bucket-is (point3 s.args.x s.args.y s.args.z) (near-place _ s.requires) _ _ _ c.before.before.lifted.ensures c.before.lifted2.ensures c.lifted3.ensures
+    bucket_is (point3 s.args.x s.args.y s.args.z) (near-place _ s.requires) _ _ _ c.before.before.lifted.ensures c.before.lifted2.ensures c.lifted3.ensures
 
 pub bucket-spec : {M : Type 1} → statement M
 bucket-spec =

@@ -9,8 +9,8 @@ use mir.Val.{to_z}
 use Rattle.space.specs.Space.{Point}
 use Rattle.space.specs.held.Points.{points_of}
 use Rattle.places.specs.held.Places.{point3}
-use Rattle.places.specs.Points.{standsElse}
-use Rattle.places.specs.laws.Places.{point-bits}
+use Rattle.places.specs.Points.{stands_else_of}
+use Rattle.places.specs.laws.Places.{point_bits}
 use Rattle.taken.specs.laws.Buckets.{told_below}
 use Rattle.taken.specs.laws.Chains.{Walking, walk_start, walk-found, walk_more, walk_end, link-few}
 use Rattle.taken.proofs.is_taken.Statement.{statement}
@@ -53,7 +53,7 @@ returns c =
     let a = s.args in
     let f = s.ranges in
     let e : l.k ≡ suc (l.k - 1) = omega arith in
-    sym (sym (ap (λ (p : Point). standsElse a.n p (take a.n (points_of a.points.now))) (point-bits f.x f.y f.z))
+    sym (sym (ap (λ (p : Point). stands_else_of a.n p (take a.n (points_of a.points.now))) (point_bits f.x f.y f.z))
     ∙ walk-found a.points.now a.table.now a.n (point3 _ _ _) s.requires.0.0 s.requires.0.1.0 s.requires.0.1.1 l.k (l.k - 1) l.invariant e (sym c.before.same_place.ensures ∙ c.if1.true))
 
 add-k : tie.Need-overflow-add-k invariant-loop decreases-loop
@@ -88,7 +88,7 @@ returns-2 c =
     let a = s.args in
     let f = s.ranges in
     let e : l.k ≡ 0 = omega arith in
-    sym (sym (ap (λ (p : Point). standsElse a.n p (take a.n (points_of a.points.now))) (point-bits f.x f.y f.z))
+    sym (sym (ap (λ (p : Point). stands_else_of a.n p (take a.n (points_of a.points.now))) (point_bits f.x f.y f.z))
     ∙ walk_end a.points.now a.table.now a.n (point3 _ _ _) s.requires.0.0 s.requires.0.1.0 s.requires.0.1.1 l.k e l.invariant)
 
 pub is-taken-spec : {M : Type 1} → statement M

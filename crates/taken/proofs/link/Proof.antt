@@ -2,7 +2,7 @@
 use native.Mathlib.Omega.{arith}
 use Rattle.places.specs.held.Places.{point3}
 use Rattle.taken.specs.laws.Buckets.{told_below, told-bucket}
-use Rattle.taken.specs.laws.Chains.{linked-in}
+use Rattle.taken.specs.laws.Chains.{linked_in}
 use borrow.Author.Rules.{rules}
 use Rattle.taken.proofs.link.Statement.{statement}
 use Rattle.taken.proofs.link.Tie as tie
@@ -38,7 +38,7 @@ returns : tie.Need-returns
 returns c =
     let s = c.before.before in
     let a = s.args in
-    linked-in a.table.now a.n (point3 a.x a.y a.z) c.before.bucket.result (told-bucket a.x a.y a.z s.requires.1 c.before.bucket.ensures)
+    linked_in a.table.now a.n (point3 a.x a.y a.z) c.before.bucket.result (told-bucket a.x a.y a.z s.requires.1 c.before.bucket.ensures)
 
 pub link-spec : {M : Type 1} → statement M
 link-spec =

@@ -1,5 +1,5 @@
 -- `taken::same_place` meets its contract: bits are the same exactly where the numbers are.
-use Rattle.space.specs.held.Points.{placeAt}
+use Rattle.space.specs.held.Points.{place_at}
 use Rattle.taken.specs.laws.Else.{place_is}
 use borrow.Author.Rules.{rules}
 use Rattle.taken.proofs.same_place.Statement.{statement}
@@ -48,7 +48,7 @@ returns c =
     let a = c.before.before.before.before.wide in
     let b = c.before.before.wide2 in
     let d = c.wide3 in
-    place_is (placeAt s.args.points.now s.args.p) f.x f.y f.z
+    place_is (place_at s.args.points.now s.args.p) f.x f.y f.z
     (record { sfits = a.type-inv }) (record { sfits = b.type-inv }) (record { sfits = d.type-inv })
     (record { sfits = c.before.before.before.before.before.wide-arg.given }) (record { sfits = c.before.before.before.wide-arg2.given }) (record { sfits = c.before.wide-arg3.given })
     a.ensures b.ensures d.ensures

@@ -3,20 +3,20 @@
 -- point than its own, so that a chain ends.
 use Rattle.std.specs.Prelude.{ℕ, zero, suc, ◌+◌, ◌<◌, ◌≡◌, cond, List, eqb, length, get_or, set, ℤ}
 use Rattle.space.specs.Space.{Point}
-use Rattle.space.specs.held.Points.{placeAt}
-use Rattle.taken.specs.held.Buckets.{bucketOf}
+use Rattle.space.specs.held.Points.{place_at}
+use Rattle.taken.specs.held.Buckets.{bucket_of}
 
 -- one more than the number of the last point below n in bucket b; 0 if there is none
-unfoldable pub lastBelow : List ℤ → ℕ → ℕ → ℕ
-lastBelow points b zero = 0
-lastBelow points b (suc n) = cond (eqb (bucketOf (placeAt points n)) b) (suc n) (lastBelow points b n)
+unfoldable pub last_below : List ℤ → ℕ → ℕ → ℕ
+last_below points b zero = 0
+last_below points b (suc n) = cond (eqb (bucket_of (place_at points n)) b) (suc n) (last_below points b n)
 
 -- the chains of the first n points
 pub record Chained (points : List ℤ) (table : List ℕ) (n : ℕ) : Type 0 where
   pub size : length table ≡ 1024
-  pub heads : (b : ℕ) → b < 512 → get_or table b 0 ≡ lastBelow points b n
-  pub links : (i : ℕ) → i < n → get_or table (512 + i) 0 ≡ lastBelow points (bucketOf (placeAt points i)) i
+  pub heads : (b : ℕ) → b < 512 → get_or table b 0 ≡ last_below points b n
+  pub links : (i : ℕ) → i < n → get_or table (512 + i) 0 ≡ last_below points (bucket_of (place_at points i)) i
 
 -- the table with point n, which stands at p, before the first of its bucket
 abbrev pub linked : List ℕ → ℕ → Point → List ℕ
-linked table n p = set (set table (512 + n) (get_or table (bucketOf p) 0)) (bucketOf p) (n + 1)
+linked table n p = set (set table (512 + n) (get_or table (bucket_of p) 0)) (bucket_of p) (n + 1)

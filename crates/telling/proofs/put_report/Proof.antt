@@ -1,8 +1,8 @@
 -- `telling::put_report` meets its contract.
-use Rattle.telling.specs.laws.Told.{wrote-report}
+use Rattle.telling.specs.laws.Told.{wrote_report}
 use Rattle.report.specs.laws.Told.{kept-faults, kept-volume, kept-summable}
-use Rattle.building.specs.held.Holds.{heldTables}
-use Rattle.whole.specs.laws.Size.{call-is}
+use Rattle.building.specs.held.Holds.{held_tables}
+use Rattle.whole.specs.laws.Size.{call_is}
 use mir.Syntax.{w64}
 use mathlib.Core.Path.{◌∙◌}
 use borrow.Author.Rules.{rules}
@@ -18,7 +18,7 @@ six-volume-requires c κs = let k = c.before.before.requires.1 in kept-summable 
 verdict-of-requires : tie.Need-verdict-of-requires
 verdict-of-requires c κs =
     let k = c.before.before.before.requires.1 in
-    (k.0, (k.1, (c.before.faults-of.ensures, call-is w64 c.six-volume.type-inv c.six-volume.ensures)))
+    (k.0, (k.1, (c.before.faults-of.ensures, call_is w64 c.six-volume.type-inv c.six-volume.ensures)))
 
 check-number-requires : tie.Need-check-number-requires
 check-number-requires c κs = search rules
@@ -39,10 +39,10 @@ returns : tie.Need-returns
 returns c =
     let a = c.before.before.before.before.before.before.before.before.before.before.before.args in
     let k = c.before.before.before.before.before.before.before.before.before.before.before.requires.1 in
-    wrote-report (heldTables a.points.now a.entries.now a.starts.now a.firsts.now a.s) c.before.before.before.before.before.before.before.verdict-of.result c.before.before.before.before.before.before.check-number.result c.before.before.before.before.before.element-a.result c.before.before.before.before.element-b.result c.before.before.before.before.before.before.before.before.before.faults-of.result _
+    wrote_report (held_tables a.points.now a.entries.now a.starts.now a.firsts.now a.s) c.before.before.before.before.before.before.before.verdict-of.result c.before.before.before.before.before.before.check-number.result c.before.before.before.before.before.element-a.result c.before.before.before.before.element-b.result c.before.before.before.before.before.before.before.before.before.faults-of.result _
     c.before.before.before.before.before.before.before.verdict-of.ensures c.before.before.before.before.before.before.check-number.ensures c.before.before.before.before.before.element-a.ensures c.before.before.before.before.element-b.ensures
     (c.before.before.before.before.before.before.before.before.before.faults-of.ensures ∙ kept-faults k.0 k.1.found)
-    (call-is w64 c.before.before.before.before.before.before.before.before.six-volume.type-inv (c.before.before.before.before.before.before.before.before.six-volume.ensures ∙ kept-volume k.0 k.1.summed))
+    (call_is w64 c.before.before.before.before.before.before.before.before.six-volume.type-inv (c.before.before.before.before.before.before.before.before.six-volume.ensures ∙ kept-volume k.0 k.1.summed))
     a.room.now _ _ _ c.before.before.put-report.ensures
 
 pub put-report-spec : {M : Type 1} → statement M

@@ -3,7 +3,7 @@ use Prim.Native.Nat.{◌-◌}
 use mathlib.Core.Logic.{⊎_elim}
 use lib.ListN.{length}
 use borrow.Author.Rules.{rules}
-use Rattle.totals.specs.laws.Scans.{Counted, counted_none, counted_skip, counted-more, counted-done}
+use Rattle.totals.specs.laws.Scans.{Counted, counted_none, counted_skip, counted_more, counted_done}
 use Rattle.totals.proofs.faults_in.Statement.{statement}
 use Rattle.totals.proofs.faults_in.Tie as tie
 
@@ -36,14 +36,14 @@ loop-again c =
     let s = c.before.before.before.before in
     let lp = c.before.before.before.loop in
     ⊎_elim
-    (λ w. rw w.1 (counted-more s.args.part.now lp.i c.before.before.loop-test.true lp.count lp.invariant w.0.taken))
+    (λ w. rw w.1 (counted_more s.args.part.now lp.i c.before.before.loop-test.true lp.count lp.invariant w.0.taken))
     (λ w. rw w.1 (counted_skip s.args.part.now lp.i c.before.before.loop-test.true lp.count lp.invariant w.0.left))
     c.if1.branch
 
 returns : tie.Need-returns invariant-loop decreases-loop
 returns c =
     let lp = c.before.loop in
-    counted-done c.before.before.args.part.now lp.i lp.count lp.invariant c.loop-test.false
+    counted_done c.before.before.args.part.now lp.i lp.count lp.invariant c.loop-test.false
 
 pub faults-in-spec : {M : Type 1} → statement M
 faults-in-spec =

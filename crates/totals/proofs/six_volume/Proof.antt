@@ -7,13 +7,13 @@ use mir.Syntax.{w64}
 use mir.Val.{to_z}
 use mir.Facts.{to_z-of_z}
 use Rattle.whole.specs.Lists.{sum_of}
-use Rattle.totals.specs.held.Scans.{sumUpTo}
+use Rattle.totals.specs.held.Scans.{sum_up_to}
 use Rattle.totals.specs.laws.Scans.{sum_fits, sum-next}
 use Rattle.totals.proofs.six_volume.Statement.{statement}
 use Rattle.totals.proofs.six_volume.Tie as tie
 
 abbrev invariant-loop : tie.invariant-loop
-invariant-loop parts n total₀ i₀ total i = (i ≤ n) × (to_z w64 total ≡ sumUpTo parts i)
+invariant-loop parts n total₀ i₀ total i = (i ≤ n) × (to_z w64 total ≡ sum_up_to parts i)
 
 abbrev decreases-loop : tie.decreases-loop
 decreases-loop parts n total₀ i₀ total i = n - i
@@ -50,7 +50,7 @@ returns : tie.Need-returns invariant-loop decreases-loop
 returns c =
     let l = c.before.loop in
     let e : l.i ≡ c.before.before.args.n = omega arith in
-    l.invariant.1 ∙ ap (sumUpTo c.before.before.args.parts.now) e
+    l.invariant.1 ∙ ap (sum_up_to c.before.before.args.parts.now) e
 
 pub six-volume-spec : {M : Type 1} → statement M
 six-volume-spec =

@@ -1,8 +1,8 @@
 -- `turning::turn_polygon` meets its contract.
-use Rattle.desk.specs.laws.Dids.{valid-held, did-refused}
-use Rattle.turning.specs.laws.Dids.{turn_holds, turn-known, did-turn}
+use Rattle.desk.specs.laws.Dids.{valid_held, did_refused}
+use Rattle.turning.specs.laws.Dids.{turn_holds, turn_known, did_turn}
 use Rattle.desk.specs.held.Holds.{service}
-use Rattle.service.specs.Service.{refusal, isAccepted}
+use Rattle.service.specs.Service.{refusal, is_accepted_of}
 use Rattle.frame.specs.Frame.{turn}
 use mathlib.Core.Bool.{true}
 use Rattle.building.specs.held.Holds.{Arrays, arrays}
@@ -22,10 +22,10 @@ turn-polygon-requires c κs =
     let g = c.before.before.before.before.before.before.before.before.before.before.args in
     let v = c.before.before.before.before.before.before.before.before.before.before.requires.1 in
     let w : Arrays = arrays g.points.now g.entries.now g.starts.now g.firsts.now g.stamps.now g.findings.now g.parts.now g.table.now g.turned.now in
-    let o = c.before.before.before.before.before.before.before.before.of-turn in
-    let t : isAccepted o.result ≡ true = sym c.before.before.before.before.before.before.before.is-accepted.ensures ∙ c.before.before.before.before.before.before.if1.true in
+    let o = c.before.before.before.before.before.before.before.before.of_turn_lem in
+    let t : is_accepted_of o.result ≡ true = sym c.before.before.before.before.before.before.before.is-accepted.ensures ∙ c.before.before.before.before.before.before.if1.true in
     let q : o.result ≡ refusal (service w g.d) (turn g.number g.p) = o.ensures.is w tt v in
-    (valid-held w g.d v (turn_holds w g.d v g.number g.p o.result q t), turn-known w g.d v g.number g.p o.result q t)
+    (valid_held w g.d v (turn_holds w g.d v g.number g.p o.result q t), turn_known w g.d v g.number g.p o.result q t)
 
 put-report-requires : tie.Need-put-report-requires
 put-report-requires c κs = search rules
@@ -38,9 +38,9 @@ returns c =
     let g = c.before.before.before.before.before.before.before.before.before.before.before.before.before.before.before.before.before.before.before.args in
     let v = c.before.before.before.before.before.before.before.before.before.before.before.before.before.before.before.before.before.before.before.requires.1 in
     let w : Arrays = arrays g.points.now g.entries.now g.starts.now g.firsts.now g.stamps.now g.findings.now g.parts.now g.table.now g.turned.now in
-    let o = c.before.before.before.before.before.before.before.before.before.before.before.before.before.before.before.before.before.of-turn in
+    let o = c.before.before.before.before.before.before.before.before.before.before.before.before.before.before.before.before.before.of_turn_lem in
     let t = sym c.before.before.before.before.before.before.before.before.before.before.before.before.before.before.before.before.is-accepted.ensures ∙ c.before.before.before.before.before.before.before.before.before.before.before.before.before.before.before.if1.true in
-    did-turn w g.d v g.number g.p o.result (o.ensures.is w tt v) t _ _ c.before.before.before.before.before.before.before.before.turn-polygon.ensures.0 g.room.now _ _ c.before.before.put-report.ensures
+    did_turn w g.d v g.number g.p o.result (o.ensures.is w tt v) t _ _ c.before.before.before.before.before.before.before.before.turn-polygon.ensures.0 g.room.now _ _ c.before.before.put-report.ensures
 
 refuse-requires : tie.Need-refuse-requires
 refuse-requires c κs = search rules
@@ -53,7 +53,7 @@ returns-2 c =
     let g = c.before.before.before.before.before.before.before.before.args in
     let v = c.before.before.before.before.before.before.before.before.requires.1 in
     let w : Arrays = arrays g.points.now g.entries.now g.starts.now g.firsts.now g.stamps.now g.findings.now g.parts.now g.table.now g.turned.now in
-    did-refused w g.d v (turn g.number g.p) c.before.before.before.before.before.before.of-turn.result g.room.now _ _ (c.before.before.before.before.before.before.of-turn.ensures.is w tt v) (sym c.before.before.before.before.before.is-accepted.ensures ∙ c.before.before.before.before.if1.false) (c.before.before.refuse.ensures w v)
+    did_refused w g.d v (turn g.number g.p) c.before.before.before.before.before.before.of_turn_lem.result g.room.now _ _ (c.before.before.before.before.before.before.of_turn_lem.ensures.is w tt v) (sym c.before.before.before.before.before.is-accepted.ensures ∙ c.before.before.before.before.if1.false) (c.before.before.refuse.ensures w v)
 
 pub turn-polygon-spec : {M : Type 1} → statement M
 turn-polygon-spec =

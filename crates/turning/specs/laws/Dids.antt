@@ -10,35 +10,35 @@ use Rattle.frame.specs.Frame.{turn}
 use Rattle.answer.specs.held.Wrote.{Wrote}
 use Rattle.building.specs.declared.Scalars.{Scalars}
 use Rattle.building.specs.Tables.{turned}
-use Rattle.building.specs.held.Holds.{Arrays, heldTables, heldBuilding}
+use Rattle.building.specs.held.Holds.{Arrays, held_tables, held_building}
 use Rattle.building.specs.laws.Load.{tables-polygons}
 use Rattle.service.specs.declared.Refusal.{Refusal}
-use Rattle.service.specs.Service.{State, tables_of, buildingOf, isMisplaced, isAbsent, refusal, takes, reportOf, answerTo, isAccepted}
+use Rattle.service.specs.Service.{State, tables_of, building_of, is_misplaced_of, is_absent, refusal, takes, report_of, answer_to, is_accepted_of}
 use Rattle.service.specs.laws.Fresh.{Passed}
 use Rattle.modes.specs.declared.Mode.TheVariants.{Holding}
 use Rattle.desk.specs.declared.Desk.{Desk}
 use Rattle.modes.specs.held.Mode.{holds}
 use Rattle.desk.specs.held.Holds.{service, Valid, Did, does}
 use Rattle.desk.specs.laws.Rows.{tables, service-holds}
-use Rattle.desk.specs.laws.Dids.{passed-row, holding-mode, did-report}
+use Rattle.desk.specs.laws.Dids.{passed_row, holding_mode, did_report}
 use Rattle.building.specs.held.Holds as B
 
-module _ (a : Arrays) (d : Desk) (v : Valid a d) (number p : ℕ) (r : Refusal) (row : r ≡ refusal (service a d) (turn number p)) (t : isAccepted r ≡ true) where
-  turn-passed : Passed (service a d) (turn number p)
-  turn-passed = passed-row (service a d) (turn number p) r row t
+module _ (a : Arrays) (d : Desk) (v : Valid a d) (number p : ℕ) (r : Refusal) (row : r ≡ refusal (service a d) (turn number p)) (t : is_accepted_of r ≡ true) where
+  turn_passed : Passed (service a d) (turn number p)
+  turn_passed = passed_row (service a d) (turn number p) r row t
 
   pub turn_holds : holds d.mode ≡ true
-  unfolding isMisplaced service
-  turn_holds = holding-mode d.mode (tables a d) (heldBuilding a d.held) turn-passed.placed
+  unfolding is_misplaced_of service
+  turn_holds = holding_mode d.mode (tables a d) (held_building a d.held) turn_passed.placed
 
-  pub turn-known : p < d.held.polygons
-  unfolding isAbsent tables_of heldBuilding
-  turn-known =
-      let k : leb (length (tables a d).polygons) p ≡ false = ap (λ (st : State). leb (length (tables_of st).polygons) p) (sym (service-holds a d turn_holds)) ∙ turn-passed.known in
+  pub turn_known : p < d.held.polygons
+  unfolding is_absent tables_of held_building
+  turn_known =
+      let k : leb (length (tables a d).polygons) p ≡ false = ap (λ (st : State). leb (length (tables_of st).polygons) p) (sym (service-holds a d turn_holds)) ∙ turn_passed.known in
       omega (arith, leb-false (length (tables a d).polygons) p k, tables-polygons v.loaded)
 
-  pub did-turn : (a' : Arrays) (s : Scalars) → B.Did (turned number p (heldBuilding a d.held)) a' s
-      → (room room' : List ℕ) (at : ℕ) → Wrote (ended (reportOf (heldTables a'.points a'.entries a'.starts a'.firsts s))) room d.at room' at
+  pub did_turn : (a' : Arrays) (s : Scalars) → B.Did (turned number p (held_building a d.held)) a' s
+      → (room room' : List ℕ) (at : ℕ) → Wrote (ended (report_of (held_tables a'.points a'.entries a'.starts a'.firsts s))) room d.at room' at
       → Did (does (service a d) (turn number p)) room d.at a' room' (record { mode = Holding; held = s; at = at })
-  unfolding takes answerTo tables_of buildingOf
-  did-turn = did-report a d (turn number p) r row t (turned number p (heldBuilding a d.held)) (ap (λ (st : State). takes st (turn number p)) (service-holds a d turn_holds)) refl
+  unfolding takes answer_to tables_of building_of
+  did_turn = did_report a d (turn number p) r row t (turned number p (held_building a d.held)) (ap (λ (st : State). takes st (turn number p)) (service-holds a d turn_holds)) refl

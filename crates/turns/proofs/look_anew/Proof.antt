@@ -4,7 +4,7 @@ use mathlib.Core.Path.{ap}
 use lib.ListN.{set}
 use lib.IntN.{ℤ}
 use mir.Syntax.{w64}
-use Rattle.whole.specs.laws.Size.{call-is}
+use Rattle.whole.specs.laws.Size.{call_is}
 use borrow.Author.Rules.{rules}
 use Rattle.turns.proofs.look_anew.Statement.{statement}
 use Rattle.turns.proofs.look_anew.Tie as tie
@@ -28,7 +28,7 @@ returns : tie.Need-returns
 returns c =
     let a = c.before.before.args in
     let l = c.before.look-at-several.ensures in
-    (ap (λ (v : ℕ). set a.findings.now a.p v) l.0, ap (λ (z : ℤ). set a.parts.now a.p z) (call-is w64 c.struct_told.given.1.0.1 l.1))
+    (ap (λ (v : ℕ). set a.findings.now a.p v) l.0, ap (λ (z : ℤ). set a.parts.now a.p z) (call_is w64 c.struct_told.given.1.0.1 l.1))
 
 pub look-anew-spec : {M : Type 1} → statement M
 look-anew-spec =

@@ -11,11 +11,11 @@ use borrow.Author.Tests.{not-true, not-false}
 use Rattle.space.specs.Space.{Point}
 use Rattle.space.specs.held.Points.{points_of}
 use Rattle.polygon.specs.declared.Finding.{Finding}
-use Rattle.polygon.specs.Ring.{finding, findingNumber}
-use Rattle.polygon.specs.held.Position.{hasPosition}
-use Rattle.polygon.specs.laws.Position.{position-few}
-use Rattle.ring.specs.held.Rings.{ringAt}
-use Rattle.turns.specs.laws.Turned.{turned-number, turned-placed, turned-kept, turned-found-at}
+use Rattle.polygon.specs.Ring.{finding, finding_number_of}
+use Rattle.polygon.specs.held.Position.{has_position_of}
+use Rattle.polygon.specs.laws.Position.{position_few}
+use Rattle.ring.specs.held.Rings.{ring_at}
+use Rattle.turns.specs.laws.Turned.{turned-number, turned-placed, turned_kept, turned_found_at}
 use Rattle.turns.proofs.renew_finding.Statement.{statement}
 use Rattle.turns.proofs.renew_finding.Tie as tie
 
@@ -24,15 +24,15 @@ abbrev table : tie.Start → List Point
 table c = points_of c.args.points.now
 
 abbrev ring : tie.Start → List ℕ
-ring c = ringAt c.args.entries.now c.args.starts.now c.args.q
+ring c = ring_at c.args.entries.now c.args.starts.now c.args.q
 
 abbrev found : tie.Start → Finding
 found c = finding c.args.tolerance (table c) (ring c)
 
-number : (c : tie.Start) → get_or c.args.findings.now c.args.p 0 % 16 ≡ findingNumber (found c)
+number : (c : tie.Start) → get_or c.args.findings.now c.args.p 0 % 16 ≡ finding_number_of (found c)
 number c = turned-number c.args.tolerance (table c) (ring c) c.requires.1.1.1.0.1
 
-placed : (c : tie.Else1) → hasPosition (found c.before.before.before) ≡ true
+placed : (c : tie.Else1) → has_position_of (found c.before.before.before) ≡ true
 placed c =
     let s = c.before.before.before in
     sym (turned-placed s.args.tolerance (table s) (ring s) s.requires.1.1.1.0.1) ∙ sym c.before.has-position.ensures ∙ not-false _ c.if1.false
@@ -40,7 +40,7 @@ placed c =
 few : (c : tie.After-position-of) → c.position-of.result ≤ 128
 few c =
     let s = c.before.before.before.before.before.before.before.before in
-    omega (arith, c.position-of.ensures, position-few s.args.tolerance (table s) (ring s), s.requires.1.0.known.few)
+    omega (arith, c.position-of.ensures, position_few s.args.tolerance (table s) (ring s), s.requires.1.0.known.few)
 
 -- ---- the needs
 mul-kept : tie.Need-overflow-mul-kept
@@ -56,7 +56,7 @@ returns : tie.Need-returns
 returns c =
     let s = c.before.before.before in
     let a = s.args in
-    sym (ap (set a.findings.now a.p) (sym (turned-kept a.tolerance (table s) (ring s) s.requires.1.1.1.0.1 (sym c.before.has-position.ensures ∙ not-true _ c.if1.true))) ∙ set-get_or a.findings.now a.p 0)
+    sym (ap (set a.findings.now a.p) (sym (turned_kept a.tolerance (table s) (ring s) s.requires.1.1.1.0.1 (sym c.before.has-position.ensures ∙ not-true _ c.if1.true))) ∙ set-get_or a.findings.now a.p 0)
 
 mul-from : tie.Need-overflow-mul-from
 mul-from c = search rules
@@ -115,7 +115,7 @@ returns-2 : tie.Need-returns-2
 returns-2 c =
     let s = c.before.before.before.before.before.before.before.before in
     let a = s.args in
-    ap (set a.findings.now a.p) (turned-found-at a.tolerance (table s) (ring s) s.requires.1.1.1.0.1 c.position-of.ensures)
+    ap (set a.findings.now a.p) (turned_found_at a.tolerance (table s) (ring s) s.requires.1.1.1.0.1 c.position-of.ensures)
 
 pub renew-finding-spec : {M : Type 1} → statement M
 renew-finding-spec =

@@ -4,7 +4,7 @@ use lib.ListN.{set}
 use lib.IntN.{ℤ}
 use mir.Syntax.{w64}
 use mir.Facts.{to_z-of_z}
-use Rattle.whole.specs.laws.Size.{call-is}
+use Rattle.whole.specs.laws.Size.{call_is}
 use borrow.Author.Rules.{rules}
 use Rattle.turns.proofs.renew_part.Statement.{statement}
 use Rattle.turns.proofs.renew_part.Tie as tie
@@ -60,7 +60,7 @@ element-set-from-after : tie.Need-element-set-from-after
 element-set-from-after c = search rules
 
 returns : tie.Need-returns
-returns c = let a = c.before.before.before.before.before.before.args in ap (λ (z : ℤ). set a.parts.now a.p z) (call-is w64 c.turned-part.type-inv c.turned-part.ensures)
+returns c = let a = c.before.before.before.before.before.before.args in ap (λ (z : ℤ). set a.parts.now a.p z) (call_is w64 c.turned_part_lem.type-inv c.turned_part_lem.ensures)
 
 pub renew-part-spec : {M : Type 1} → statement M
 renew-part-spec =

@@ -4,7 +4,7 @@ use mathlib.Core.Path.{◌≡◌}
 use native.Mathlib.Omega.{arith}
 use lib.ListN.{length}
 use borrow.Author.Rules.{rules}
-use Rattle.turns.specs.laws.Reversing.{Reversing, reversing-none, reversing-more, reversing-done}
+use Rattle.turns.specs.laws.Reversing.{Reversing, reversing_none, reversing_more, reversing_done}
 use Rattle.turns.proofs.reverse_in.Statement.{statement}
 use Rattle.turns.proofs.reverse_in.Tie as tie
 
@@ -15,7 +15,7 @@ abbrev decreases-loop : tie.decreases-loop
 decreases-loop entries₀ from to i₀ j₀ entries i j = j - i
 
 loop-holds : tie.Need-loop-init invariant-loop decreases-loop
-loop-holds c = (c.requires.1.1, reversing-none c.args.entries.now c.args.from c.args.to c.requires.0 (omega arith))
+loop-holds c = (c.requires.1.1, reversing_none c.args.entries.now c.args.from c.args.to c.requires.0 (omega arith))
 
 add-loop : tie.Need-overflow-add-loop invariant-loop decreases-loop
 add-loop c = search rules
@@ -57,13 +57,13 @@ loop-again : tie.Need-loop-preserved invariant-loop decreases-loop
 loop-again c =
     let lp = c.before.before.before.loop in
     let a = c.before.before.before.before.args in
-    (lp.invariant.0, reversing-more a.entries.now a.from a.to lp.entries lp.i lp.j lp.invariant.1 c.before.before.loop-test.true)
+    (lp.invariant.0, reversing_more a.entries.now a.from a.to lp.entries lp.i lp.j lp.invariant.1 c.before.before.loop-test.true)
 
 returns : tie.Need-returns invariant-loop decreases-loop
 returns c =
     let lp = c.before.loop in
     let a = c.before.before.args in
-    reversing-done a.entries.now a.from a.to lp.entries lp.i lp.j lp.invariant.1 c.loop-test.false
+    reversing_done a.entries.now a.from a.to lp.entries lp.i lp.j lp.invariant.1 c.loop-test.false
 
 pub reverse-in-spec : {M : Type 1} → statement M
 reverse-in-spec =

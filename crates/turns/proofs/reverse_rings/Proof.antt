@@ -2,7 +2,7 @@
 use Prim.Native.Nat.{◌-◌}
 use native.Mathlib.Omega.{arith}
 use Rattle.holes.specs.held.Rings.{Rings}
-use Rattle.turns.specs.laws.Rings.{Turning, turning-none, turning-ring, turning-more, turning-done}
+use Rattle.turns.specs.laws.Rings.{Turning, turning_none, turning-ring, turning-more, turning-done}
 use borrow.Author.Rules.{rules}
 use Rattle.turns.proofs.reverse_rings.Statement.{statement}
 use Rattle.turns.proofs.reverse_rings.Tie as tie
@@ -14,7 +14,7 @@ abbrev decreases-loop : tie.decreases-loop
 decreases-loop entries₀ starts from to q₀ entries q = to - q
 
 loop-holds : tie.Need-loop-init invariant-loop decreases-loop
-loop-holds c = let l = c.requires in (l.rings, turning-none (omega (arith, l.some)))
+loop-holds c = let l = c.requires in (l.rings, turning_none (omega (arith, l.some)))
 
 reverse-ring-requires : tie.Need-reverse-ring-requires invariant-loop decreases-loop
 reverse-ring-requires c κs = let i = c.before.before.loop.invariant in turning-ring i.0 i.1 c.before.loop-test.true

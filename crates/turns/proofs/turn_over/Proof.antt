@@ -8,10 +8,10 @@ use lib.IntN.{ℤ}
 use Rattle.space.specs.Space.{Point}
 use Rattle.space.specs.held.Points.{points_of}
 use Rattle.ring.specs.Polygon.{one}
-use Rattle.ring.specs.held.Rings.{ringAt, polygonAt}
-use Rattle.inner.specs.laws.Tables.{one-is}
-use Rattle.turns.specs.laws.Rings.{turned-one-ring}
-use Rattle.turns.specs.laws.Turned.{found-one, part-of-one, over-one}
+use Rattle.ring.specs.held.Rings.{ring_at, polygon_at}
+use Rattle.inner.specs.laws.Tables.{one_is}
+use Rattle.turns.specs.laws.Rings.{turned-one_ring}
+use Rattle.turns.specs.laws.Turned.{found_one, part_of-one, over-one}
 use borrow.Author.Rules.{rules}
 use Rattle.turns.proofs.turn_over.Statement.{statement}
 use Rattle.turns.proofs.turn_over.Tie as tie
@@ -24,10 +24,10 @@ abbrev first : tie.Start → ℕ
 first s = get_or s.args.firsts.now s.args.p 0
 
 abbrev ring : tie.Start → List ℕ
-ring s = ringAt s.args.entries.now s.args.starts.now (first s)
+ring s = ring_at s.args.entries.now s.args.starts.now (first s)
 
-one-ring : (s : tie.Start) → get_or s.args.firsts.now (s.args.p + 1) 0 ≡ first s + 1 → polygonAt s.args.entries.now s.args.starts.now s.args.firsts.now s.args.p ≡ one (ring s)
-one-ring s e = let l = s.requires.1.0.lies in one-is l.rings l.some e
+one_ring : (s : tie.Start) → get_or s.args.firsts.now (s.args.p + 1) 0 ≡ first s + 1 → polygon_at s.args.entries.now s.args.starts.now s.args.firsts.now s.args.p ≡ one (ring s)
+one_ring s e = let l = s.requires.1.0.lies in one_is l.rings l.some e
 
 -- ---- the needs
 mul-from : tie.Need-overflow-mul-from
@@ -61,8 +61,8 @@ turn-ring-requires c κs =
     let st = s.requires.1.0 in
     let f = s.requires.1.1.1.0 in
     let g = s.requires.1.1.1.1 in
-    let e = one-ring s c.before.before.before.if1.true in
-    (s.requires.0, (st.lies.rings.each (first s) (le_refl (first s)) st.lies.some, (s.requires.1.1.0, ((f.0, f.1 ∙ found-one (table s) (ring s) e a.tolerance), ((g.0, g.1 ∙ part-of-one (table s) (ring s) e), st.few)))))
+    let e = one_ring s c.before.before.before.if1.true in
+    (s.requires.0, (st.lies.rings.each (first s) (le_refl (first s)) st.lies.some, (s.requires.1.1.0, ((f.0, f.1 ∙ found_one (table s) (ring s) e a.tolerance), ((g.0, g.1 ∙ part_of-one (table s) (ring s) e), st.few)))))
 
 turn-rings-requires : tie.Need-turn-rings-requires
 turn-rings-requires c κs =
@@ -74,12 +74,12 @@ returns c =
     let s = c.before.before.before.before.before.before.before in
     let a = s.args in
     let t = c.before.before.before.before.if1.true in
-    let o = over-one (ring s) (one-ring s t) in
+    let o = over-one (ring s) (one_ring s t) in
     let e = c.turn-ring.ensures in (
-      e.0 ∙ sym (turned-one-ring a.entries.now a.starts.now (first s) (get_or a.firsts.now (a.p + 1) 0) t),
+      e.0 ∙ sym (turned-one_ring a.entries.now a.starts.now (first s) (get_or a.firsts.now (a.p + 1) 0) t),
       (
-        e.1.0 ∙ ap (λ (v : ℕ). set a.findings.now a.p v) (sym (found-one (table s) (reverse (ring s)) o a.tolerance)),
-        e.1.1 ∙ ap (λ (z : ℤ). set a.parts.now a.p z) (sym (part-of-one (table s) (reverse (ring s)) o)),
+        e.1.0 ∙ ap (λ (v : ℕ). set a.findings.now a.p v) (sym (found_one (table s) (reverse (ring s)) o a.tolerance)),
+        e.1.1 ∙ ap (λ (z : ℤ). set a.parts.now a.p z) (sym (part_of-one (table s) (reverse (ring s)) o)),
       ),
     )
 

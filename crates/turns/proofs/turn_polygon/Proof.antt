@@ -1,10 +1,10 @@
--- `turns::turn_polygon` meets its contract, by the law of a turn (`did-turned`).
+-- `turns::turn_polygon` meets its contract, by the law of a turn (`did_turned`).
 use mathlib.Core.Path.{refl, ◌∙◌}
 use native.Mathlib.Omega.{arith}
 use lib.ListN.{length-set}
 use Rattle.building.specs.held.Holds.{arrays, Shown}
 use Rattle.building.specs.laws.Rings.{stands_of}
-use Rattle.turns.specs.laws.Turned.{flipped, did-turned}
+use Rattle.turns.specs.laws.Turned.{flipped, did_turned}
 use borrow.Author.Rules.{rules}
 use Rattle.turns.proofs.turn_polygon.Statement.{statement}
 use Rattle.turns.proofs.turn_polygon.Tie as tie
@@ -43,8 +43,8 @@ returns c =
     let s = c.before.before.before.before.before.before.before in
     let a = s.args in
     let e = c.before.before.before.turn-over.ensures in
-    let sh : Shown a.table.now a.s.edges (flipped a.turned.now a.n) a.s.fixed c.shape-now.result = c.shape-now.ensures in (
-      did-turned (arrays a.points.now a.entries.now a.starts.now a.firsts.now a.stamps.now a.findings.now a.parts.now a.table.now a.turned.now) a.s s.requires.0 a.number a.n s.requires.1 e.0 refl e.1.0 e.1.1 refl sh,
+    let sh : Shown a.table.now a.s.edges (flipped a.turned.now a.n) a.s.fixed c.shape_now_lem.result = c.shape_now_lem.ensures in (
+      did_turned (arrays a.points.now a.entries.now a.starts.now a.firsts.now a.stamps.now a.findings.now a.parts.now a.table.now a.turned.now) a.s s.requires.0 a.number a.n s.requires.1 e.0 refl e.1.0 e.1.1 refl sh,
       record { entries = e.0; stamps = refl; findings = e.1.0; parts = e.1.1; turned = refl; scalars = refl; shown = sh },
     )
 

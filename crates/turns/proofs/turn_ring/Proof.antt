@@ -6,8 +6,8 @@ use lib.ListN.{set}
 use Rattle.polygon.specs.Ring.{finding}
 use Rattle.volume.specs.Part.{part}
 use Rattle.space.specs.held.Points.{points_of}
-use Rattle.polygon.specs.held.Findings.{keptFinding}
-use Rattle.turns.specs.laws.Turned.{own-turned, own-ring, own_back}
+use Rattle.polygon.specs.held.Findings.{kept_finding}
+use Rattle.turns.specs.laws.Turned.{own-turned, own_ring, own_back}
 use borrow.Author.Rules.{rules}
 use Rattle.turns.proofs.turn_ring.Statement.{statement}
 use Rattle.turns.proofs.turn_ring.Tie as tie
@@ -22,7 +22,7 @@ renew-finding-requires c κs =
     let e = c.before.before.reverse-ring.ensures in
     let r = s.requires.1.0 in
     let f = s.requires.1.1.1.0 in
-    (s.requires.0, (own-ring r e, (s.requires.1.1.0, ((f.0, f.1 ∙ ap (λ (l : List ℕ). keptFinding (finding a.tolerance (points_of a.points.now) l)) (own_back r e)), s.requires.1.1.1.1.1))))
+    (s.requires.0, (own_ring r e, (s.requires.1.1.0, ((f.0, f.1 ∙ ap (λ (l : List ℕ). kept_finding (finding a.tolerance (points_of a.points.now) l)) (own_back r e)), s.requires.1.1.1.1.1))))
 
 renew-part-requires : tie.Need-renew-part-requires
 renew-part-requires c κs =
@@ -30,7 +30,7 @@ renew-part-requires c κs =
     let e = c.before.before.before.before.before.reverse-ring.ensures in
     let r = s.requires.1.0 in
     let f = s.requires.1.1.1.1.0 in
-    (s.requires.0, (own-ring r e, ((f.0, f.1 ∙ ap (part (points_of s.args.points.now)) (own_back r e)), s.requires.1.1.1.1.1)))
+    (s.requires.0, (own_ring r e, ((f.0, f.1 ∙ ap (part (points_of s.args.points.now)) (own_back r e)), s.requires.1.1.1.1.1)))
 
 returns : tie.Need-returns
 returns c =
@@ -40,7 +40,7 @@ returns c =
     let own = own-turned s.requires.1.0 e in (
       e,
       (
-        c.before.before.before.renew-finding.ensures ∙ ap (λ (l : List ℕ). set a.findings.now a.p (keptFinding (finding a.tolerance (points_of a.points.now) l))) own,
+        c.before.before.before.renew-finding.ensures ∙ ap (λ (l : List ℕ). set a.findings.now a.p (kept_finding (finding a.tolerance (points_of a.points.now) l))) own,
         c.renew-part.ensures ∙ ap (λ (l : List ℕ). set a.parts.now a.p (part (points_of a.points.now) l)) own,
       ),
     )

@@ -6,9 +6,9 @@ use lib.ListN.{set}
 use lib.IntN.{ℤ, neg_ℤ}
 use Rattle.space.specs.held.Points.{points_of}
 use Rattle.ring.specs.Polygon.{Polygon}
-use Rattle.polygon.specs.held.Findings.{keptFinding}
+use Rattle.polygon.specs.held.Findings.{kept_finding}
 use Rattle.inner.specs.Finding.{finding, part}
-use Rattle.turns.specs.laws.Rings.{turned-lies, polygon-own}
+use Rattle.turns.specs.laws.Rings.{turned_lies, polygon-own}
 use Rattle.turns.specs.laws.Several.{polygon-back, kept_small, part-over}
 use borrow.Author.Rules.{rules}
 use Rattle.turns.proofs.turn_rings.Statement.{statement}
@@ -16,7 +16,7 @@ use Rattle.turns.proofs.turn_rings.Tie as tie
 
 -- what is kept of a polygon's finding, by the polygon
 abbrev kept : tie.Start → Polygon → ℕ
-kept s p = keptFinding (finding s.args.tolerance (points_of s.args.points.now) p)
+kept s p = kept_finding (finding s.args.tolerance (points_of s.args.points.now) p)
 
 -- ---- the needs
 are-closed-requires : tie.Need-are-closed-requires
@@ -31,7 +31,7 @@ renew-place-requires c κs =
     let e = c.before.before.before.reverse-rings.ensures in
     let l = s.requires.1.0 in
     let f = s.requires.1.1.1.0 in
-    (s.requires.0, (turned-lies l e, (s.requires.1.1.0, ((f.0, f.1 ∙ ap (kept s) (polygon-back l e)), s.requires.1.1.1.1.1))))
+    (s.requires.0, (turned_lies l e, (s.requires.1.1.0, ((f.0, f.1 ∙ ap (kept s) (polygon-back l e)), s.requires.1.1.1.1.1))))
 
 negate-part-requires : tie.Need-negate-part-requires
 negate-part-requires c κs =
@@ -42,7 +42,7 @@ negate-part-requires c κs =
 look-anew-requires : tie.Need-look-anew-requires
 look-anew-requires c κs =
     let s = c.before.before.before.before.before.before.before.before in
-    (s.requires.0, (turned-lies s.requires.1.0 c.before.before.before.before.reverse-rings.ensures, (s.requires.1.1.0, ((s.requires.1.1.1.0.0, s.requires.1.1.1.1.0.0), s.requires.1.1.1.1.1))))
+    (s.requires.0, (turned_lies s.requires.1.0 c.before.before.before.before.reverse-rings.ensures, (s.requires.1.1.0, ((s.requires.1.1.1.0.0, s.requires.1.1.1.1.0.0), s.requires.1.1.1.1.1))))
 
 returns : tie.Need-returns
 returns c =

@@ -7,11 +7,11 @@ use borrow.Author.Tests.{ltb-true, ltb-false}
 use Rattle.std.proofs.Math.ListN.{length, set}
 use Rattle.std.proofs.lemmas.List.{length-reverse, set_at, set-append_left, set_comm, set-get_or}
 use Rattle.std.proofs.lemmas.List.Edits.{sets}
-use Rattle.whole.specs.laws.Stores.{sets-append, cases}
+use Rattle.whole.specs.laws.Stores.{sets_append, cases}
 use Rattle.whole.specs.Lists.{tab}
 use Rattle.whole.specs.laws.Places.{tab-length}
 use Rattle.building.specs.held.Rings.{cut}
-use Rattle.building.specs.laws.Lists.{tab-ext, length_cut, cut-set-past, cut-set-before}
+use Rattle.building.specs.laws.Lists.{tab_ext, length_cut, cut-set_past, cut-set-before}
 
 module _ {A : Type 0} where
   pub tab-set : (f g : ℕ → A) (n p : ℕ) → p < n → ((q : ℕ) → q < n → (q ≡ p → ⊥) → g q ≡ f q) → tab g n ≡ set (tab f n) p (g p)
@@ -25,11 +25,11 @@ module _ {A : Type 0} where
       let l : g n ≡ f n = k n (omega arith) (λ e. omega arith) in
       rw (r, l) (sym (set-append_left (tab f n) (f n ∷ []) p (g p) i)))
       (λ t. let e : p ≡ n = omega (arith, ltb-false p n t) in
-      let r : tab g n ≡ tab f n = tab-ext g f n (λ q u. k q (omega arith) (λ v. omega arith)) in
+      let r : tab g n ≡ tab f n = tab_ext g f n (λ q u. k q (omega arith) (λ v. omega arith)) in
       rw (e, r) (sym (set_at (tab f n) (f n) [] (g n) n (tab-length f n))))
 
-  pub cut-cons : (a e : ℕ) (l : List A) (d : A) → a < e → e ≤ length l → cut a e l ≡ get_or l a d ∷ cut (suc a) e l
-  cut-cons a e l d h g =
+  pub cut_cons : (a e : ℕ) (l : List A) (d : A) → a < e → e ≤ length l → cut a e l ≡ get_or l a d ∷ cut (suc a) e l
+  cut_cons a e l d h g =
       let i : a < length l = omega arith in
       let n : e - a ≡ suc (e - suc a) = omega arith in
       rw (n, drop-cons l a d i)
@@ -58,23 +58,23 @@ module _ {A : Type 0} where
       let x = get_or l i d in
       let y = get_or l k d in
       let m = cut (suc i) k l in
-      let same : cut (suc i) k (set (set l i y) k x) ≡ m = cut-set-past (suc i) k k (set l i y) x (omega arith) (omega arith) ∙ cut-set-before (suc i) k i l y (omega arith) in
-      let whole : cut i (suc k) l ≡ x ∷ (m ++ (y ∷ [])) = cut-cons i (suc k) l d (omega arith) (omega arith) ∙ ap (λ (r : List A). x ∷ r) (cut-snoc (suc i) k l d (omega arith) g) in
+      let same : cut (suc i) k (set (set l i y) k x) ≡ m = cut-set_past (suc i) k k (set l i y) x (omega arith) (omega arith) ∙ cut-set-before (suc i) k i l y (omega arith) in
+      let whole : cut i (suc k) l ≡ x ∷ (m ++ (y ∷ [])) = cut_cons i (suc k) l d (omega arith) (omega arith) ∙ ap (λ (r : List A). x ∷ r) (cut-snoc (suc i) k l d (omega arith) g) in
       let n : length (reverse m) ≡ k - suc i = length-reverse m ∙ length_cut (suc i) k l (omega arith) in
       let at : suc i + length (reverse m) ≡ k = omega arith in
       ap (λ (r : List A). sets (set (set l i y) k x) (suc i) (reverse r)) same
       ∙ sym (set-sets (set l i y) (reverse m) (suc i) k x (omega arith))
       ∙ ap (λ (j : ℕ). set (sets (set l i y) (suc i) (reverse m)) j x) (sym at)
-      ∙ sets-append (reverse m) (x ∷ []) (set l i y) (suc i)
+      ∙ sets_append (reverse m) (x ∷ []) (set l i y) (suc i)
       ∙ sym (ap (λ (r : List A). sets l i r) (ap reverse whole ∙ reverse-ends x y m))
 
   -- at most one is left
-  pub swap-done : (l : List A) (i j : ℕ) (d : A) → i ≤ j → j ≤ i + 1 → j ≤ length l → sets l i (reverse (cut i j l)) ≡ l
-  swap-done l i j d h g w =
+  pub swap_done : (l : List A) (i j : ℕ) (d : A) → i ≤ j → j ≤ i + 1 → j ≤ length l → sets l i (reverse (cut i j l)) ≡ l
+  swap_done l i j d h g w =
       cases (ltb i j)
       (λ t. let e : j ≡ suc i = omega (arith, ltb-true i j t) in
       let z : suc i - suc i ≡ 0 = omega arith in
-      let one : cut i (suc i) l ≡ get_or l i d ∷ [] = cut-cons i (suc i) l d (omega arith) (omega (arith, ltb-true i j t)) ∙ ap (λ (n : ℕ). get_or l i d ∷ take n (drop (suc i) l)) z in
+      let one : cut i (suc i) l ≡ get_or l i d ∷ [] = cut_cons i (suc i) l d (omega arith) (omega (arith, ltb-true i j t)) ∙ ap (λ (n : ℕ). get_or l i d ∷ take n (drop (suc i) l)) z in
       rw e (ap (λ (r : List A). sets l i (reverse r)) one ∙ set-get_or l i d))
       (λ t. let e : j - i ≡ 0 = omega (arith, ltb-false i j t) in rw e)
 
@@ -85,12 +85,12 @@ pub record Reversing (l₀ : List ℕ) (from to : ℕ) (l : List ℕ) (i j : ℕ
   pub inside : j ≤ length l₀
   pub rest : sets l i (reverse (cut i j l)) ≡ sets l₀ from (reverse (cut from to l₀))
 
-pub reversing-none : (l : List ℕ) (from to : ℕ) → from ≤ to → to ≤ length l → Reversing l from to l from to
-reversing-none l from to h g = record { size = refl; apart = h; inside = g; rest = refl }
+pub reversing_none : (l : List ℕ) (from to : ℕ) → from ≤ to → to ≤ length l → Reversing l from to l from to
+reversing_none l from to h g = record { size = refl; apart = h; inside = g; rest = refl }
 
 module _ (l₀ : List ℕ) (from to : ℕ) (l : List ℕ) (i j : ℕ) (r : Reversing l₀ from to l i j) where
-  pub reversing-more : i + 1 < j → Reversing l₀ from to (set (set l i (get_or l (j - 1) 0)) (j - 1) (get_or l i 0)) (i + 1) (j - 1)
-  reversing-more h =
+  pub reversing_more : i + 1 < j → Reversing l₀ from to (set (set l i (get_or l (j - 1) 0)) (j - 1) (get_or l i 0)) (i + 1) (j - 1)
+  reversing_more h =
       let s : length l ≡ length l₀ = r.size in
       let w : j ≤ length l₀ = r.inside in
       let e : suc (j - 1) ≡ j = omega arith in
@@ -102,5 +102,5 @@ module _ (l₀ : List ℕ) (from to : ℕ) (l : List ℕ) (i j : ℕ) (r : Rever
         rest = rw add-one (swap-turn l i (j - 1) 0 (omega arith) (omega arith) ∙ t);
       }
 
-  pub reversing-done : j ≤ i + 1 → l ≡ sets l₀ from (reverse (cut from to l₀))
-  reversing-done h = sym (swap-done l i j 0 r.apart h (omega (arith, r.size, r.inside))) ∙ r.rest
+  pub reversing_done : j ≤ i + 1 → l ≡ sets l₀ from (reverse (cut from to l₀))
+  reversing_done h = sym (swap_done l i j 0 r.apart h (omega (arith, r.size, r.inside))) ∙ r.rest

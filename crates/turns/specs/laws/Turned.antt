@@ -11,11 +11,11 @@ use Rattle.std.proofs.Math.Seq.{take-set-lt, length-sets}
 use Rattle.std.proofs.Math.IntN.{+ℤ_idl}
 use Rattle.std.specs.Int.{w64}
 use Rattle.whole.specs.Lists.{at}
-use Rattle.whole.specs.laws.Size.{small-more, small-fits}
+use Rattle.whole.specs.laws.Size.{small_more, small_fits}
 use Rattle.whole.specs.laws.Stores.{cases}
-use Rattle.ring.specs.Entries.{isUnclosed}
-use Rattle.polygon.specs.Ring.{finding, findingNumber, findingPosition}
-use Rattle.polygon.specs.held.Position.{hasPosition}
+use Rattle.ring.specs.Entries.{is_unclosed}
+use Rattle.polygon.specs.Ring.{finding, finding_number_of, finding_position_of}
+use Rattle.polygon.specs.held.Position.{has_position_of}
 use Rattle.volume.specs.Part.{part}
 use Rattle.volume.specs.laws.Turn.{part_turned}
 use Rattle.polygon.specs.laws.TurnFinding.{number-turned, finding-turned}
@@ -23,40 +23,40 @@ use Rattle.space.specs.Space.{Point}
 use Rattle.space.specs.held.Points.{points_of, Coords, Known}
 use Rattle.volume.specs.laws.PartSizes.{part_small}
 use Rattle.shell.specs.declared.Shape.{Shape}
-use Rattle.ring.specs.Polygon.{Polygon, one, turnedOver}
-use Rattle.ring.specs.held.Rings.{ringAt, polygonAt, polygons}
+use Rattle.ring.specs.Polygon.{Polygon, one, turned_over}
+use Rattle.ring.specs.held.Rings.{ring_at, polygon_at, polygons}
 use Rattle.ring.specs.laws.Turned.{turned-one}
 use Rattle.inner.specs.Finding as Inner
-use Rattle.inner.specs.laws.One.{one-ring, one-part}
+use Rattle.inner.specs.laws.One.{one_ring, one-part}
 use Rattle.holes.specs.held.Rings.{Ring}
-use Rattle.shell.specs.laws.EdgedLaws.{listed-turned, edged-turned}
+use Rattle.shell.specs.laws.EdgedLaws.{listed-turned, edged_turned}
 use Rattle.building.specs.declared.Scalars.{Scalars}
 use Rattle.building.specs.Tables.{turned}
-use Rattle.building.specs.held.Holds.{isUnmendable, Arrays, arrays, heldTables, heldBuilding, Loaded, Found, Summed, Broken, Shown, Held, Did}
-use Rattle.polygon.specs.held.Findings.{keptFinding, is_placed}
-use Rattle.building.specs.laws.Findings.{kept-number}
+use Rattle.building.specs.held.Holds.{is_unmendable_of, Arrays, arrays, held_tables, held_building, Loaded, Found, Summed, Broken, Shown, Held, Did}
+use Rattle.polygon.specs.held.Findings.{kept_finding, is_placed}
+use Rattle.building.specs.laws.Findings.{kept_number}
 use Rattle.building.specs.laws.Unmended.{unmendable-turned}
-use Rattle.polygon.specs.laws.Position.{placed-is}
-use Rattle.turns.specs.laws.Rings.{reversed-known, stored-own}
-use Rattle.turns.specs.laws.Polygons.{turnedAt, own-over, other-same, turned-polygons, turned-loaded}
+use Rattle.polygon.specs.laws.Position.{placed_is}
+use Rattle.turns.specs.laws.Rings.{reversed_known, stored_own}
+use Rattle.turns.specs.laws.Polygons.{turned_at, own-over, other_same, turned_polygons_lem, turned-loaded}
 
 -- ---- the part of a turned ring, from what it was
-neg-neg : (z : ℤ) → neg_ℤ (neg_ℤ z) ≡ z
-neg-neg (pos zero) = refl
-neg-neg (pos (suc n)) = refl
-neg-neg (negsuc n) = refl
+neg_neg : (z : ℤ) → neg_ℤ (neg_ℤ z) ≡ z
+neg_neg (pos zero) = refl
+neg_neg (pos (suc n)) = refl
+neg_neg (negsuc n) = refl
 
 module _ {points : List ℤ} {ring : List ℕ} (co : Coords points) (kn : Known ring) where
   pub part-fits : SFits w64 (part (points_of points) ring)
-  part-fits = small-fits {n = 768000000000000000} tt (small-more (omega (arith, kn.few)) (part_small co kn))
+  part-fits = small_fits {n = 768000000000000000} tt (small_more (omega (arith, kn.few)) (part_small co kn))
 
-  module _ (before : ℤ) (e : before ≡ part (points_of points) (reverse ring)) (closed : isUnclosed ring ≡ false) where
+  module _ (before : ℤ) (e : before ≡ part (points_of points) (reverse ring)) (closed : is_unclosed ring ≡ false) where
     -- as the machine negates it
     negated : SFits w64 before → pos 0 -ℤ to_z w64 (of_z w64 before) ≡ part (points_of points) ring
     negated f =
         +ℤ_idl (neg_ℤ (to_z w64 (of_z w64 before)))
         ∙ ap neg_ℤ (to_z-of_z f ∙ e ∙ part_turned (points_of points) ring closed)
-        ∙ neg-neg (part (points_of points) ring)
+        ∙ neg_neg (part (points_of points) ring)
 
     pub negated_fits : SFits w64 before → SFits w64 (pos 0 -ℤ to_z w64 (of_z w64 before))
     negated_fits f = subst (λ (z : ℤ). SFits w64 z) (sym (negated f)) part-fits
@@ -65,41 +65,41 @@ module _ {points : List ℤ} {ring : List ℕ} (co : Coords points) (kn : Known 
     negated-is f = to_z-of_z (negated_fits f) ∙ negated f
 
 -- what the turned ring asks, whose entries stand turned already
-module _ {entries starts : List ℕ} {q : ℕ} (r : Ring entries starts q) {entries' : List ℕ} (e : entries' ≡ sets entries (get_or starts q 0) (reverse (ringAt entries starts q))) where
-  pub own-turned : ringAt entries' starts q ≡ reverse (ringAt entries starts q)
-  own-turned = ap (λ (es : List ℕ). ringAt es starts q) e ∙ stored-own r entries r.entries-size
+module _ {entries starts : List ℕ} {q : ℕ} (r : Ring entries starts q) {entries' : List ℕ} (e : entries' ≡ sets entries (get_or starts q 0) (reverse (ring_at entries starts q))) where
+  pub own-turned : ring_at entries' starts q ≡ reverse (ring_at entries starts q)
+  own-turned = ap (λ (es : List ℕ). ring_at es starts q) e ∙ stored_own r entries r.entries-size
 
-  pub own_back : ringAt entries starts q ≡ reverse (ringAt entries' starts q)
-  own_back = sym (reverse-reverse (ringAt entries starts q)) ∙ ap reverse (sym own-turned)
+  pub own_back : ring_at entries starts q ≡ reverse (ring_at entries' starts q)
+  own_back = sym (reverse-reverse (ring_at entries starts q)) ∙ ap reverse (sym own-turned)
 
-  pub own-ring : Ring entries' starts q
-  own-ring =
+  pub own_ring : Ring entries' starts q
+  own_ring =
       record {
-        entries-size = ap length e ∙ length-sets entries (get_or starts q 0) (reverse (ringAt entries starts q)) ∙ r.entries-size;
-        starts-size = r.starts-size;
+        entries-size = ap length e ∙ length-sets entries (get_or starts q 0) (reverse (ring_at entries starts q)) ∙ r.entries-size;
+        starts_size = r.starts_size;
         few = r.few;
         forward = r.forward;
         inside = r.inside;
-        known = subst Known (sym own-turned) (reversed-known r);
+        known = subst Known (sym own-turned) (reversed_known r);
       }
 
 -- ---- the finding of a ring that has been turned, from what it was
-module _ (tolerance : ℕ) (points : List Point) (ring : List ℕ) {k : ℕ} (e : k ≡ keptFinding (finding tolerance points (reverse ring))) where
+module _ (tolerance : ℕ) (points : List Point) (ring : List ℕ) {k : ℕ} (e : k ≡ kept_finding (finding tolerance points (reverse ring))) where
   -- its number stands
-  pub turned-number : k % 16 ≡ findingNumber (finding tolerance points ring)
-  turned-number = kept-number (finding tolerance points (reverse ring)) e ∙ number-turned tolerance points ring
+  pub turned-number : k % 16 ≡ finding_number_of (finding tolerance points ring)
+  turned-number = kept_number (finding tolerance points (reverse ring)) e ∙ number-turned tolerance points ring
 
-  pub turned-placed : is_placed (k % 16) ≡ hasPosition (finding tolerance points ring)
-  turned-placed = ap is_placed turned-number ∙ placed-is (finding tolerance points ring)
+  pub turned-placed : is_placed (k % 16) ≡ has_position_of (finding tolerance points ring)
+  turned-placed = ap is_placed turned-number ∙ placed_is (finding tolerance points ring)
 
   -- without a position it is what it was
-  pub turned-kept : is_placed (k % 16) ≡ false → k ≡ keptFinding (finding tolerance points ring)
-  turned-kept h = e ∙ ap keptFinding (finding-turned tolerance points ring (sym turned-placed ∙ h))
+  pub turned_kept : is_placed (k % 16) ≡ false → k ≡ kept_finding (finding tolerance points ring)
+  turned_kept h = e ∙ ap kept_finding (finding-turned tolerance points ring (sym turned-placed ∙ h))
 
   -- and with one it is that number, met elsewhere
-  pub turned-found-at : {i : ℕ} → i ≡ findingPosition (finding tolerance points ring) → 16 * i + k % 16 ≡ keptFinding (finding tolerance points ring)
-  unfolding keptFinding
-  turned-found-at h = ap₂ (λ (p n : ℕ). 16 * p + n) h turned-number
+  pub turned_found_at : {i : ℕ} → i ≡ finding_position_of (finding tolerance points ring) → 16 * i + k % 16 ≡ kept_finding (finding tolerance points ring)
+  unfolding kept_finding
+  turned_found_at h = ap₂ (λ (p n : ℕ). 16 * p + n) h turned-number
 
 -- ---- the flag of a turned ring
 abbrev pub flipped : List ℕ → ℕ → List ℕ
@@ -107,65 +107,65 @@ flipped turned p = set turned p (1 - get_or turned p 0)
 
 -- ---- a polygon of one ring: what it tells is what the ring tells, turned or not
 module _ (points : List Point) {polygon : Polygon} (ring : List ℕ) (e : polygon ≡ one ring) where
-  pub found-one : (tolerance : ℕ) → keptFinding (Inner.finding tolerance points polygon) ≡ keptFinding (finding tolerance points ring)
-  found-one tolerance = ap keptFinding (ap (Inner.finding tolerance points) e ∙ one-ring points ring tolerance)
+  pub found_one : (tolerance : ℕ) → kept_finding (Inner.finding tolerance points polygon) ≡ kept_finding (finding tolerance points ring)
+  found_one tolerance = ap kept_finding (ap (Inner.finding tolerance points) e ∙ one_ring points ring tolerance)
 
-  pub part-of-one : Inner.part points polygon ≡ part points ring
-  part-of-one = ap (Inner.part points) e ∙ one-part points ring
+  pub part_of-one : Inner.part points polygon ≡ part points ring
+  part_of-one = ap (Inner.part points) e ∙ one-part points ring
 
-pub over-one : {polygon : Polygon} (ring : List ℕ) → polygon ≡ one ring → turnedOver polygon ≡ one (reverse ring)
-over-one ring e = ap turnedOver e ∙ turned-one ring
+pub over-one : {polygon : Polygon} (ring : List ℕ) → polygon ≡ one ring → turned_over polygon ≡ one (reverse ring)
+over-one ring e = ap turned_over e ∙ turned-one ring
 
 -- ---- all that is kept
 module _ {points : List ℤ} {entries starts firsts : List ℕ} {s : Scalars} (ld : Loaded points entries starts firsts s) (p : ℕ) (h : p < s.polygons) where
   -- what a polygon tells, stored anew for the turned one, is told of every polygon
-  turned-each : {A : Type 0} (f : Polygon → A) (l : List A) (d : A) → length l ≡ 256 → ((q : ℕ) → q < s.polygons → get_or l q d ≡ f (polygonAt entries starts firsts q))
-      → (q : ℕ) → q < s.polygons → get_or (set l p (f (turnedOver (polygonAt entries starts firsts p)))) q d ≡ f (polygonAt (turnedAt entries starts firsts p) starts firsts q)
-  turned-each f l d size each q g =
-      let z = f (turnedOver (polygonAt entries starts firsts p)) in
+  turned_each : {A : Type 0} (f : Polygon → A) (l : List A) (d : A) → length l ≡ 256 → ((q : ℕ) → q < s.polygons → get_or l q d ≡ f (polygon_at entries starts firsts q))
+      → (q : ℕ) → q < s.polygons → get_or (set l p (f (turned_over (polygon_at entries starts firsts p)))) q d ≡ f (polygon_at (turned_at entries starts firsts p) starts firsts q)
+  turned_each f l d size each q g =
+      let z = f (turned_over (polygon_at entries starts firsts p)) in
       cases (eqb q p)
       (λ t. rw (eqb-true q p t) (get_or-set_same l p z d (omega (arith, ld.layout.few)) ∙ ap f (sym (own-over ld p h))))
-      (λ t. get_or-set_other l p q z d (eqb-false q p t) ∙ each q g ∙ ap f (sym (other-same ld p h q g (eqb-false q p t))))
+      (λ t. get_or-set_other l p q z d (eqb-false q p t) ∙ each q g ∙ ap f (sym (other_same ld p h q g (eqb-false q p t))))
 
-  turned-found : {findings : List ℕ} → Found points entries starts firsts findings s
-      → Found points (turnedAt entries starts firsts p) starts firsts (set findings p (keptFinding (Inner.finding s.tolerance (points_of points) (turnedOver (polygonAt entries starts firsts p))))) s
-  turned-found {findings} f =
+  turned_found : {findings : List ℕ} → Found points entries starts firsts findings s
+      → Found points (turned_at entries starts firsts p) starts firsts (set findings p (kept_finding (Inner.finding s.tolerance (points_of points) (turned_over (polygon_at entries starts firsts p))))) s
+  turned_found {findings} f =
       record {
         size = length-set findings p _ ∙ f.size;
-        each = turned-each (λ q. keptFinding (Inner.finding s.tolerance (points_of points) q)) findings 0 f.size f.each;
+        each = turned_each (λ q. kept_finding (Inner.finding s.tolerance (points_of points) q)) findings 0 f.size f.each;
       }
 
-  turned-summed : {parts : List ℤ} → Summed points entries starts firsts parts s
-      → Summed points (turnedAt entries starts firsts p) starts firsts (set parts p (Inner.part (points_of points) (turnedOver (polygonAt entries starts firsts p)))) s
-  turned-summed {parts} f =
+  turned_summed : {parts : List ℤ} → Summed points entries starts firsts parts s
+      → Summed points (turned_at entries starts firsts p) starts firsts (set parts p (Inner.part (points_of points) (turned_over (polygon_at entries starts firsts p)))) s
+  turned_summed {parts} f =
       record {
         size = length-set parts p _ ∙ f.size;
-        each = turned-each (Inner.part (points_of points)) parts (pos 0) f.size f.each;
+        each = turned_each (Inner.part (points_of points)) parts (pos 0) f.size f.each;
       }
 
-  turned-broken : Broken entries starts firsts s.polygons → Broken (turnedAt entries starts firsts p) starts firsts s.polygons
-  turned-broken b =
+  turned_broken : Broken entries starts firsts s.polygons → Broken (turned_at entries starts firsts p) starts firsts s.polygons
+  turned_broken b =
       let q = b.polygon in
       record {
         polygon = q;
         below = b.below;
         broken = cases (eqb q p)
-            (λ t. rw (eqb-true q p t) (ap isUnmendable (own-over ld p h) ∙ unmendable-turned (polygonAt entries starts firsts p) ∙ subst (λ (k : ℕ). isUnmendable (polygonAt entries starts firsts k) ≡ true) (eqb-true q p t) b.broken))
-            (λ t. ap isUnmendable (other-same ld p h q b.below (eqb-false q p t)) ∙ b.broken);
+            (λ t. rw (eqb-true q p t) (ap is_unmendable_of (own-over ld p h) ∙ unmendable-turned (polygon_at entries starts firsts p) ∙ subst (λ (k : ℕ). is_unmendable_of (polygon_at entries starts firsts k) ≡ true) (eqb-true q p t) b.broken))
+            (λ t. ap is_unmendable_of (other_same ld p h q b.below (eqb-false q p t)) ∙ b.broken);
       }
 
 module _ (a : Arrays) (s : Scalars) (hd : Held a s) (number p : ℕ) (h : p < s.polygons) where
   -- the turned rings, their polygon's finding, part, stamp and flag make the building that a turn makes
-  pub did-turned : {entries' stamps' findings' : List ℕ} {parts' : List ℤ} {turned' : List ℕ}
-      → entries' ≡ turnedAt a.entries a.starts a.firsts p
+  pub did_turned : {entries' stamps' findings' : List ℕ} {parts' : List ℤ} {turned' : List ℕ}
+      → entries' ≡ turned_at a.entries a.starts a.firsts p
       → stamps' ≡ set a.stamps p number
-      → findings' ≡ set a.findings p (keptFinding (Inner.finding s.tolerance (points_of a.points) (turnedOver (polygonAt a.entries a.starts a.firsts p))))
-      → parts' ≡ set a.parts p (Inner.part (points_of a.points) (turnedOver (polygonAt a.entries a.starts a.firsts p)))
+      → findings' ≡ set a.findings p (kept_finding (Inner.finding s.tolerance (points_of a.points) (turned_over (polygon_at a.entries a.starts a.firsts p))))
+      → parts' ≡ set a.parts p (Inner.part (points_of a.points) (turned_over (polygon_at a.entries a.starts a.firsts p)))
       → turned' ≡ flipped a.turned p
       → {shape' : Shape} → Shown a.table s.edges turned' s.fixed shape'
-      → Did (turned number p (heldBuilding a s)) (arrays a.points entries' a.starts a.firsts stamps' findings' parts' a.table turned') (record { tolerance = s.tolerance; points = s.points; polygons = s.polygons; last = number; edges = s.edges; fixed = s.fixed; shape = shape' })
-  unfolding heldBuilding heldTables turned
-  did-turned e₁ e₂ e₅ e₃ e₄ {shape'} sh =
+      → Did (turned number p (held_building a s)) (arrays a.points entries' a.starts a.firsts stamps' findings' parts' a.table turned') (record { tolerance = s.tolerance; points = s.points; polygons = s.polygons; last = number; edges = s.edges; fixed = s.fixed; shape = shape' })
+  unfolding held_building held_tables turned
+  did_turned e₁ e₂ e₅ e₃ e₄ {shape'} sh =
       let ld = hd.loaded in
       let kp = hd.kept in
       let few : p < 256 = omega (arith, ld.layout.few) in
@@ -178,14 +178,14 @@ module _ (a : Arrays) (s : Scalars) (hd : Held a s) (number p : ℕ) (h : p < s.
           loaded = record { coords = lt.coords; first = lt.first; layout = lt.layout; entered = lt.entered; tolerant = lt.tolerant; short = lt.short };
           stamped = length-set a.stamps p number ∙ hd.stamped;
           kept = record {
-            found = record { size = (turned-found ld p h kp.found).size; each = (turned-found ld p h kp.found).each };
-            summed = record { size = (turned-summed ld p h kp.summed).size; each = (turned-summed ld p h kp.summed).each };
+            found = record { size = (turned_found ld p h kp.found).size; each = (turned_found ld p h kp.found).each };
+            summed = record { size = (turned_summed ld p h kp.summed).size; each = (turned_summed ld p h kp.summed).each };
             table-size = kp.table-size;
             turned-size = length-set a.turned p (1 - get_or a.turned p 0) ∙ kp.turned-size;
-            listed = rw (turned-polygons ld p h) (listed-turned (polygons a.entries a.starts a.firsts s.polygons) a.table s.edges a.turned p b kp.listed);
-            shaped = ⊎_elim (λ br. inl (turned-broken ld p h br)) (λ ed. inr (rw (turned-polygons ld p h) (edged-turned (polygons a.entries a.starts a.firsts s.polygons) a.table s.edges a.turned s.fixed p b ed))) kp.shaped;
+            listed = rw (turned_polygons_lem ld p h) (listed-turned (polygons a.entries a.starts a.firsts s.polygons) a.table s.edges a.turned p b kp.listed);
+            shaped = ⊎_elim (λ br. inl (turned_broken ld p h br)) (λ ed. inr (rw (turned_polygons_lem ld p h) (edged_turned (polygons a.entries a.starts a.firsts s.polygons) a.table s.edges a.turned s.fixed p b ed))) kp.shaped;
             shown = sh';
           };
         };
-        is = rw (turned-polygons ld p h, take-set-lt s.polygons a.stamps p number h);
+        is = rw (turned_polygons_lem ld p h, take-set-lt s.polygons a.stamps p number h);
       })

@@ -1,7 +1,7 @@
 -- `users::first_of` meets its contract. The loop keeps: before lo stand words of edges below e, and from hi on none.
 use Prim.Native.Nat.{◌+◌, ◌-◌, ◌/◌}
 use native.Mathlib.Omega.{arith}
-use Rattle.users.proofs.Search.{halving-up, halving-down, halving-done}
+use Rattle.users.proofs.Search.{halving-up, halving-down, halving_done}
 use Rattle.users.specs.held.Users.{Halving}
 use borrow.Author.Rules.{rules}
 use Rattle.users.proofs.first_of.Statement.{statement}
@@ -58,7 +58,7 @@ returns : tie.Need-returns invariant-loop decreases-loop
 returns c =
     let lp = c.before.loop in
     let a = c.before.before.before.args in
-    halving-done a.words.now a.e lp.lo lp.hi lp.invariant c.loop-test.false
+    halving_done a.words.now a.e lp.lo lp.hi lp.invariant c.loop-test.false
 
 pub first-of-spec : {M : Type 1} → statement M
 first-of-spec =

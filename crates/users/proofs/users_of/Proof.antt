@@ -4,8 +4,8 @@ use native.Mathlib.Omega.{arith}
 use mathlib.Core.Path.{sym, subst}
 use lib.ListN.{take, length-take}
 use lib.Seq.{length-take-le}
-use Rattle.users.specs.held.Users.{usersIn, Told}
-use Rattle.users.proofs.Search.{halving-none, ordered, told_of}
+use Rattle.users.specs.held.Users.{users_in, Told}
+use Rattle.users.proofs.Search.{halving_none, ordered, told_of}
 use borrow.Author.Rules.{rules}
 use Rattle.users.proofs.users_of.Statement.{statement}
 use Rattle.users.proofs.users_of.Tie as tie
@@ -20,7 +20,7 @@ first-of-requires : tie.Need-first-of-requires
 first-of-requires c κs =
     let st = c.before.before.before in
     let a = st.args in
-    (st.requires.2, halving-none (take a.count a.table.now) c.edge_of.result a.count (sym (length-take-le a.count a.table.now (omega (arith, st.requires.0, st.requires.1)))))
+    (st.requires.2, halving_none (take a.count a.table.now) c.edge_of.result a.count (sym (length-take-le a.count a.table.now (omega (arith, st.requires.0, st.requires.1)))))
 
 end-of-requires : tie.Need-end-of-requires
 end-of-requires c κs =
@@ -55,7 +55,7 @@ returns c =
     let e = c.before.before.before.before.edge_of in
     let from = c.before.before.before.first_of in
     let to = c.before.before.end_of_lem in
-    subst (λ (k : ℕ). Told (usersIn k words) (to.result - from.result) c.before.user-at.result c.user-at2.result) e.ensures.0
+    subst (λ (k : ℕ). Told (users_in k words) (to.result - from.result) c.before.user-at.result c.user-at2.result) e.ensures.0
     (told_of words e.result from.result to.result from.ensures to.ensures c.before.user-at.result c.user-at2.result c.before.user-at.ensures c.user-at2.ensures)
 
 pub users-of-spec : {M : Type 1} → statement M

@@ -4,5 +4,5 @@ use Rattle.whole.specs.laws.Agree.{agree}
 use Rattle.users.specs.held.Users.{Told}
 
 -- `users_of`: the number of users and the two lowest
-pub users-of-agree : (us : List ℕ) (k k' l l' s s' : ℕ) → Told us k l s → Told us k' l' s' → (k ≡ k') × (l ≡ l') × (s ≡ s')
-users-of-agree us k k' l l' s s' a b = (agree a.count-is b.count-is, agree a.lowest-is b.lowest-is, agree a.second_is b.second_is)
+pub users_of_agree : (us : List ℕ) (k k' l l' s s' : ℕ) → Told us k l s → Told us k' l' s' → (k ≡ k') × (l ≡ l') × (s ≡ s')
+users_of_agree us k k' l l' s s' a b = (agree a.count_is b.count_is, agree a.lowest_is b.lowest_is, agree a.second_is b.second_is)

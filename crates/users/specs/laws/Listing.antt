@@ -9,29 +9,29 @@ use Rattle.std.proofs.Math.Arith.{lt_of_le-ne}
 use Rattle.std.proofs.Math.Dec.{eqb}
 use Rattle.std.proofs.lemmas.List.{length-replicate}
 use Rattle.whole.specs.Lists.{keep, given, first}
-use Rattle.ring.specs.Polygon.{Polygon, ringsOf, all, allRings}
-use Rattle.edges.specs.Edges.{edge, smaller, larger, edgesOf, count}
+use Rattle.ring.specs.Polygon.{Polygon, rings_of, all, all_rings}
+use Rattle.edges.specs.Edges.{edge, smaller, larger, edges_of, count}
 use Rattle.edges.specs.Order.{ascending}
 use Rattle.edges.specs.held.Ascending.{In, Asc}
 use Rattle.edges.specs.laws.EdgeLaws.{edge-sym, smaller-edge, larger-edge}
-use Rattle.edges.specs.laws.Tallies.{tally-nil, tally-append, in-tally}
-use Rattle.edges.specs.laws.Ascending.{asc-ascending, in-ascending, ascending-in}
-use Rattle.shell.specs.laws.Closure.{keep-in, in-keep}
+use Rattle.edges.specs.laws.Tallies.{tally_nil, tally_append, in_tally}
+use Rattle.edges.specs.laws.Ascending.{asc_ascending, in_ascending, ascending_in}
+use Rattle.shell.specs.laws.Closure.{keep_in, in_keep}
 use Rattle.shell.specs.laws.Adequate.{uses, used, all_both}
-use Rattle.users.specs.EdgeList.{usersFrom, usersOf, Listed, listed, isEdge, once, edgesOnce, edgeList, lookedUp, across}
+use Rattle.users.specs.EdgeList.{users_from, users_at, Listed, listed, is_edge, once, edges_once, edge_list, looked_up, across}
 
 -- "in either order"
 pub either_order : (a b : ℕ) (ps : List Polygon) → across a b ps ≡ across b a ps
 unfolding across
-either_order a b ps = ap (λ (e : ℕ). lookedUp e (edgeList ps)) (edge-sym a b)
+either_order a b ps = ap (λ (e : ℕ). looked_up e (edge_list ps)) (edge-sym a b)
 
 -- ---- each number of a list in ascending order once
 
-in-once : (x : ℕ) (l : List ℕ) → In x l → In x (once l)
+in_once : (x : ℕ) (l : List ℕ) → In x l → In x (once l)
 unfolding once
-in-once x [] i = i
-in-once x (y ∷ []) i = i
-in-once x (y ∷ z ∷ l) i = go (eqb y z) refl i (in-once x (z ∷ l))
+in_once x [] i = i
+in_once x (y ∷ []) i = i
+in_once x (y ∷ z ∷ l) i = go (eqb y z) refl i (in_once x (z ∷ l))
   where
     go : (b : Bool) → eqb y z ≡ b → In x (y ∷ z ∷ l) → (In x (z ∷ l) → In x (once (z ∷ l))) → In x (once (y ∷ z ∷ l))
     go true e (inl q) ih = rw (e, once) (ih (inl (q ∙ eqb-true y z e)))
@@ -39,11 +39,11 @@ in-once x (y ∷ z ∷ l) i = go (eqb y z) refl i (in-once x (z ∷ l))
     go false e (inl q) ih = rw (e, once) (inl q)
     go false e (inr j) ih = rw (e, once) (inr (ih j))
 
-once-in : (x : ℕ) (l : List ℕ) → In x (once l) → In x l
+once_in : (x : ℕ) (l : List ℕ) → In x (once l) → In x l
 unfolding once
-once-in x [] i = i
-once-in x (y ∷ []) i = i
-once-in x (y ∷ z ∷ l) i = go (eqb y z) refl i (once-in x (z ∷ l))
+once_in x [] i = i
+once_in x (y ∷ []) i = i
+once_in x (y ∷ z ∷ l) i = go (eqb y z) refl i (once_in x (z ∷ l))
   where
     go : (b : Bool) → eqb y z ≡ b → In x (once (y ∷ z ∷ l)) → (In x (once (z ∷ l)) → In x (z ∷ l)) → In x (y ∷ z ∷ l)
     go true e i ih = inr (ih (rw (e, once) at i))
@@ -54,11 +54,11 @@ abbrev pub Strict : List ℕ → Type 0
 Strict [] = Unit {0}
 Strict (x ∷ l) = ((y : ℕ) → In y l → x < y) × Strict l
 
-once-strict : (l : List ℕ) → Asc l → Strict (once l)
+once_strict : (l : List ℕ) → Asc l → Strict (once l)
 unfolding once
-once-strict [] a = tt
-once-strict (x ∷ []) a = ((λ y i. absurd i), tt)
-once-strict (x ∷ y ∷ l) a = go (eqb x y) refl (once-strict (y ∷ l) a.1)
+once_strict [] a = tt
+once_strict (x ∷ []) a = ((λ y i. absurd i), tt)
+once_strict (x ∷ y ∷ l) a = go (eqb x y) refl (once_strict (y ∷ l) a.1)
   where
     above : (x ≡ y → ⊥) → (z : ℕ) → In z (y ∷ l) → x < z
     above n z (inl q) = let h : x ≤ y = a.0 y (inl refl) in lt_of_le-ne (subst (λ (k : ℕ). x ≤ k) (sym q) h) (λ e. n (e ∙ q))
@@ -66,58 +66,58 @@ once-strict (x ∷ y ∷ l) a = go (eqb x y) refl (once-strict (y ∷ l) a.1)
 
     go : (b : Bool) → eqb x y ≡ b → Strict (once (y ∷ l)) → Strict (once (x ∷ y ∷ l))
     go true e ih = rw (e, once) ih
-    go false e ih = rw (e, once) ((λ z i. above (eqb-false x y e) z (once-in z (y ∷ l) i)), ih)
+    go false e ih = rw (e, once) ((λ z i. above (eqb-false x y e) z (once_in z (y ∷ l) i)), ih)
 
 -- ---- what stands in the list: each edge that a ring uses, but no step from a number to itself
 
-pub ascending-list : (ps : List Polygon) → Strict (edgesOnce ps)
-unfolding edgesOnce
-ascending-list ps = once-strict (ascending (keep isEdge (all edgesOf (allRings ps)))) (asc-ascending (keep isEdge (all edgesOf (allRings ps))))
+pub ascending_list : (ps : List Polygon) → Strict (edges_once ps)
+unfolding edges_once
+ascending_list ps = once_strict (ascending (keep is_edge (all edges_of (all_rings ps)))) (asc_ascending (keep is_edge (all edges_of (all_rings ps))))
 
-pub list-has : (e : ℕ) (ps : List Polygon) → In e (all edgesOf (allRings ps)) → isEdge e ≡ true → In e (edgesOnce ps)
-unfolding edgesOnce
-list-has e ps i t =
-    in-once e (ascending (keep isEdge (all edgesOf (allRings ps)))) (ascending-in (keep isEdge (all edgesOf (allRings ps))) e (in-keep isEdge e (all edgesOf (allRings ps)) i t))
+pub list_has : (e : ℕ) (ps : List Polygon) → In e (all edges_of (all_rings ps)) → is_edge e ≡ true → In e (edges_once ps)
+unfolding edges_once
+list_has e ps i t =
+    in_once e (ascending (keep is_edge (all edges_of (all_rings ps)))) (ascending_in (keep is_edge (all edges_of (all_rings ps))) e (in_keep is_edge e (all edges_of (all_rings ps)) i t))
 
-pub has-list : (e : ℕ) (ps : List Polygon) → In e (edgesOnce ps) → In e (all edgesOf (allRings ps)) × (isEdge e ≡ true)
-unfolding edgesOnce
-has-list e ps i =
-    keep-in isEdge e (all edgesOf (allRings ps)) (in-ascending (keep isEdge (all edgesOf (allRings ps))) e (once-in e (ascending (keep isEdge (all edgesOf (allRings ps)))) i))
+pub has_list : (e : ℕ) (ps : List Polygon) → In e (edges_once ps) → In e (all edges_of (all_rings ps)) × (is_edge e ≡ true)
+unfolding edges_once
+has_list e ps i =
+    keep_in is_edge e (all edges_of (all_rings ps)) (in_ascending (keep is_edge (all edges_of (all_rings ps))) e (once_in e (ascending (keep is_edge (all edges_of (all_rings ps)))) i))
 
 -- "a step from a number to itself is no edge"
-pub no_self : (e : ℕ) (ps : List Polygon) → In e (edgesOnce ps) → smaller e ≡ larger e → ⊥
-unfolding isEdge
-no_self e ps i q = true≢false (sym (has-list e ps i).1 ∙ ap not (eq-eqb (smaller e) (larger e) q))
+pub no_self : (e : ℕ) (ps : List Polygon) → In e (edges_once ps) → smaller e ≡ larger e → ⊥
+unfolding is_edge
+no_self e ps i q = true≢false (sym (has_list e ps i).1 ∙ ap not (eq-eqb (smaller e) (larger e) q))
 
 -- the edge between two different points is an edge
-pub is-edge : (a b : ℕ) → a < 65536 → b < 65536 → (a ≡ b → ⊥) → isEdge (edge a b) ≡ true
-unfolding isEdge
-is-edge a b h g n = ap not (ap₂ eqb (smaller-edge a b h g) (larger-edge a b h g) ∙ ne_eqb (min a b) (max a b) (λ e. n (same e)))
+pub is_edge_lem : (a b : ℕ) → a < 65536 → b < 65536 → (a ≡ b → ⊥) → is_edge (edge a b) ≡ true
+unfolding is_edge
+is_edge_lem a b h g n = ap not (ap₂ eqb (smaller-edge a b h g) (larger-edge a b h g) ∙ ne_eqb (min a b) (max a b) (λ e. n (same e)))
   where
     same : min a b ≡ max a b → a ≡ b
     same e = omega arith
 
 -- ---- an edge has as many users as uses
 
-users-number : (e n : ℕ) (ps : List Polygon) → length (usersFrom e n ps) ≡ uses (allRings ps) e
-unfolding usersFrom uses allRings all count
-users-number e n [] = sym (tally-nil (eqb e))
-users-number e n (p ∷ ps) =
-    length-append (replicate (count e (all edgesOf (ringsOf p))) n) (usersFrom e (suc n) ps)
-    ∙ ap₂ (λ (x y : ℕ). x + y) (length-replicate (count e (all edgesOf (ringsOf p))) n) (users-number e (suc n) ps)
-    ∙ sym (ap (λ (l : List ℕ). count e l) (all_both edgesOf (ringsOf p) (allRings ps)) ∙ tally-append (eqb e) (all edgesOf (ringsOf p)) (all edgesOf (allRings ps)))
+users_number : (e n : ℕ) (ps : List Polygon) → length (users_from e n ps) ≡ uses (all_rings ps) e
+unfolding users_from uses all_rings all count
+users_number e n [] = sym (tally_nil (eqb e))
+users_number e n (p ∷ ps) =
+    length-append (replicate (count e (all edges_of (rings_of p))) n) (users_from e (suc n) ps)
+    ∙ ap₂ (λ (x y : ℕ). x + y) (length-replicate (count e (all edges_of (rings_of p))) n) (users_number e (suc n) ps)
+    ∙ sym (ap (λ (l : List ℕ). count e l) (all_both edges_of (rings_of p) (all_rings ps)) ∙ tally_append (eqb e) (all edges_of (rings_of p)) (all edges_of (all_rings ps)))
 
-pub users-uses : (e : ℕ) (ps : List Polygon) → length (usersOf e ps) ≡ uses (allRings ps) e
-unfolding usersOf
-users-uses e ps = users-number e 0 ps
+pub users_uses : (e : ℕ) (ps : List Polygon) → length (users_at e ps) ≡ uses (all_rings ps) e
+unfolding users_at
+users_uses e ps = users_number e 0 ps
 
-pub some-use : (e : ℕ) (ps : List Polygon) → In e (all edgesOf (allRings ps)) → 1 ≤ uses (allRings ps) e
+pub some_use : (e : ℕ) (ps : List Polygon) → In e (all edges_of (all_rings ps)) → 1 ≤ uses (all_rings ps) e
 unfolding uses count
-some-use e ps i = in-tally (eqb e) e (all edgesOf (allRings ps)) i (eq-eqb e e refl)
+some_use e ps i = in_tally (eqb e) e (all edges_of (all_rings ps)) i (eq-eqb e e refl)
 
 -- ---- looking an edge up
 
-numbered-so : (ps : List Polygon) (x : ℕ) → (listed x (usersOf x ps)).number ≡ x
+numbered-so : (ps : List Polygon) (x : ℕ) → (listed x (users_at x ps)).number ≡ x
 unfolding listed
 numbered-so ps x = refl
 
@@ -145,21 +145,21 @@ empty [] h = refl
 empty (x ∷ l) h = absurd (omega arith)
 
 -- the list tells the users of an edge, none where no ring has it
-pub told-users : (e : ℕ) (ps : List Polygon) → isEdge e ≡ true → lookedUp e (edgeList ps) ≡ listed e (usersOf e ps)
-unfolding lookedUp edgeList
-told-users e ps is = go (uses (allRings ps) e) refl
+pub told_users : (e : ℕ) (ps : List Polygon) → is_edge e ≡ true → looked_up e (edge_list ps) ≡ listed e (users_at e ps)
+unfolding looked_up edge_list
+told_users e ps is = go (uses (all_rings ps) e) refl
   where
-    go : (n : ℕ) → uses (allRings ps) e ≡ n → lookedUp e (edgeList ps) ≡ listed e (usersOf e ps)
+    go : (n : ℕ) → uses (all_rings ps) e ≡ n → looked_up e (edge_list ps) ≡ listed e (users_at e ps)
     go zero q =
-        missing (λ x. listed x (usersOf x ps)) (numbered-so ps) e (listed e []) (edgesOnce ps) (λ i. unused (some-use e ps (has-list e ps i).0))
-        ∙ ap (listed e) (sym (empty (usersOf e ps) (users-uses e ps ∙ q)))
+        missing (λ x. listed x (users_at x ps)) (numbered-so ps) e (listed e []) (edges_once ps) (λ i. unused (some_use e ps (has_list e ps i).0))
+        ∙ ap (listed e) (sym (empty (users_at e ps) (users_uses e ps ∙ q)))
       where
-        unused : 1 ≤ uses (allRings ps) e → ⊥
+        unused : 1 ≤ uses (all_rings ps) e → ⊥
         unused h = omega arith
     go (suc n) q =
-        found (λ x. listed x (usersOf x ps)) (numbered-so ps) e (listed e []) (edgesOnce ps) (list-has e ps (used (allRings ps) e (omega arith)) is)
+        found (λ x. listed x (users_at x ps)) (numbered-so ps) e (listed e []) (edges_once ps) (list_has e ps (used (all_rings ps) e (omega arith)) is)
 
 -- "Frame 0C asks for two point numbers in either order and answers .. users .., first user .., second user"
-pub across-is : (a b : ℕ) (ps : List Polygon) → a < 65536 → b < 65536 → (a ≡ b → ⊥) → across a b ps ≡ listed (edge a b) (usersOf (edge a b) ps)
+pub across_is : (a b : ℕ) (ps : List Polygon) → a < 65536 → b < 65536 → (a ≡ b → ⊥) → across a b ps ≡ listed (edge a b) (users_at (edge a b) ps)
 unfolding across
-across-is a b ps h g n = told-users (edge a b) ps (is-edge a b h g n)
+across_is a b ps h g n = told_users (edge a b) ps (is_edge_lem a b h g n)

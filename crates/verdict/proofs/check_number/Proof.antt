@@ -1,7 +1,7 @@
 -- `verdict::check_number` meets its contract, case by case.
 use mathlib.Core.Path.{sym, ap, ◌∙◌}
 use borrow.Author.Rules.{rules}
-use Rattle.building.specs.Report.{checkNumber}
+use Rattle.building.specs.Report.{check_number_of}
 use Rattle.verdict.proofs.check_number.Statement.{statement}
 use Rattle.verdict.proofs.check_number.Tie as tie
 
@@ -24,19 +24,19 @@ enum-told-2 : tie.Need-enum-told-2
 enum-told-2 c = search rules
 
 returns : tie.Need-returns
-unfolding checkNumber
+unfolding check_number_of
 returns c = search rules
 
 returns-2 : tie.Need-returns-2
-unfolding checkNumber
-returns-2 c = c.finding-number.ensures ∙ sym (ap checkNumber c.before.before.v.given.1)
+unfolding check_number_of
+returns-2 c = c.finding-number.ensures ∙ sym (ap check_number_of c.before.before.v.given.1)
 
 returns-3 : tie.Need-returns-3
-unfolding checkNumber
-returns-3 c = c.shape-number.ensures ∙ sym (ap checkNumber c.before.before.v2.given.1)
+unfolding check_number_of
+returns-3 c = c.shape-number.ensures ∙ sym (ap check_number_of c.before.before.v2.given.1)
 
 returns-4 : tie.Need-returns-4
-unfolding checkNumber
+unfolding check_number_of
 returns-4 c = search rules
 
 pub check-number-spec : {M : Type 1} → statement M

@@ -1,6 +1,6 @@
 -- `verdict::shape_number` meets its contract, case by case.
 use borrow.Author.Rules.{rules}
-use Rattle.shell.specs.Shell.{shapeNumber}
+use Rattle.shell.specs.Shell.{shape_number_of}
 use Rattle.verdict.proofs.shape_number.Statement.{statement}
 use Rattle.verdict.proofs.shape_number.Tie as tie
 
@@ -26,31 +26,31 @@ enum-told-7 : tie.Need-enum-told-7
 enum-told-7 c = search rules
 
 returns : tie.Need-returns
-unfolding shapeNumber
+unfolding shape_number_of
 returns c = search rules
 
 returns-2 : tie.Need-returns-2
-unfolding shapeNumber
+unfolding shape_number_of
 returns-2 c = search rules
 
 returns-3 : tie.Need-returns-3
-unfolding shapeNumber
+unfolding shape_number_of
 returns-3 c = search rules
 
 returns-4 : tie.Need-returns-4
-unfolding shapeNumber
+unfolding shape_number_of
 returns-4 c = search rules
 
 returns-5 : tie.Need-returns-5
-unfolding shapeNumber
+unfolding shape_number_of
 returns-5 c = search rules
 
 returns-6 : tie.Need-returns-6
-unfolding shapeNumber
+unfolding shape_number_of
 returns-6 c = search rules
 
 returns-7 : tie.Need-returns-7
-unfolding shapeNumber
+unfolding shape_number_of
 returns-7 c = search rules
 
 pub shape-number-spec : {M : Type 1} → statement M

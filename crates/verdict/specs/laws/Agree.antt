@@ -2,12 +2,12 @@
 use Rattle.std.specs.Prelude.{ℕ, ◌≡◌}
 use Rattle.whole.specs.laws.Agree.{agree}
 use Rattle.shell.specs.declared.Shape.{Shape}
-use Rattle.shell.specs.Shell.{shapeNumber}
+use Rattle.shell.specs.Shell.{shape_number_of}
 use Rattle.building.specs.declared.Verdict.{Verdict}
-use Rattle.building.specs.Report.{checkNumber}
+use Rattle.building.specs.Report.{check_number_of}
 
-pub shape-number-agrees : (s : Shape) (r₁ r₂ : ℕ) → r₁ ≡ shapeNumber s → r₂ ≡ shapeNumber s → r₁ ≡ r₂
-shape-number-agrees s r₁ r₂ = agree
+pub shape_number_agrees : (s : Shape) (r₁ r₂ : ℕ) → r₁ ≡ shape_number_of s → r₂ ≡ shape_number_of s → r₁ ≡ r₂
+shape_number_agrees s r₁ r₂ = agree
 
-pub check-number-agrees : (v : Verdict) (r₁ r₂ : ℕ) → r₁ ≡ checkNumber v → r₂ ≡ checkNumber v → r₁ ≡ r₂
-check-number-agrees v r₁ r₂ = agree
+pub check_number_agrees : (v : Verdict) (r₁ r₂ : ℕ) → r₁ ≡ check_number_of v → r₂ ≡ check_number_of v → r₁ ≡ r₂
+check_number_agrees v r₁ r₂ = agree

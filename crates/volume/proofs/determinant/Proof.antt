@@ -2,9 +2,9 @@
 use mathlib.Core.Path.{◌∙◌}
 use mir.Syntax.{w64}
 use borrow.Author.Rules.{rules}
-use Rattle.whole.specs.laws.Size.{call-is}
+use Rattle.whole.specs.laws.Size.{call_is}
 use Rattle.space.specs.Space.{determinant}
-use Rattle.space.specs.laws.Numbers.{seen-is, seen-near}
+use Rattle.space.specs.laws.Numbers.{seen_is, seen-near}
 use Rattle.volume.proofs.determinant.Statement.{statement}
 use Rattle.volume.proofs.determinant.Tie as tie
 
@@ -70,7 +70,7 @@ nine-requires c κs =
 returns : tie.Need-returns
 returns c =
     let h = c.before.before.before.before.before.before.before.before.before.before.requires.each in
-    call-is w64 c.nine.type-inv (c.nine.ensures ∙ (λ i. determinant (seen-is _ tt (h 0) i) (seen-is _ tt (h 1) i) (seen-is _ tt (h 2) i)))
+    call_is w64 c.nine.type-inv (c.nine.ensures ∙ (λ i. determinant (seen_is _ tt (h 0) i) (seen_is _ tt (h 1) i) (seen_is _ tt (h 2) i)))
 
 pub determinant-spec : {M : Type 1} → statement M
 determinant-spec =

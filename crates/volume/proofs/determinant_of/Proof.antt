@@ -2,7 +2,7 @@
 use mathlib.Core.Path.{◌∙◌}
 use mir.Syntax.{w64}
 use borrow.Author.Rules.{rules}
-use Rattle.whole.specs.laws.Size.{call-is}
+use Rattle.whole.specs.laws.Size.{call_is}
 use Rattle.space.specs.laws.Sizes.{near-place}
 use Rattle.space.specs.Space.{determinant}
 use Rattle.space.specs.laws.Numbers.{near-back, back_is}
@@ -27,7 +27,7 @@ determinant-requires c κs =
 returns : tie.Need-returns
 returns c =
     let h = c.before.before.before.before.before.before.before.before.before.before.before.before.before.requires.0 in
-    call-is w64 c.determinant.type-inv
+    call_is w64 c.determinant.type-inv
     (c.determinant.ensures
     ∙ (λ i. determinant (back_is tt c.before.before.before.before.before.before.before.before.before.before.before.before.place_of.ensures (near-place h _) i) (back_is tt c.before.before.before.before.before.before.before.before.before.before.before.place-of2.ensures (near-place h _) i) (back_is tt c.before.before.before.before.before.before.before.before.before.before.place-of3.ensures (near-place h _) i)))
 

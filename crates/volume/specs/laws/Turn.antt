@@ -7,28 +7,28 @@ use Rattle.std.proofs.lemmas.Bool.{not-false}
 use Rattle.std.proofs.Math.IntN.{neg_ℤ, +ℤ_idr, +ℤ_idl}
 use Rattle.whole.specs.laws.Reverse.{map_reverse_aux}
 use Rattle.whole.specs.laws.Solve.{◌⊕◌, ◌⊖◌, ◌⊗◌, ⊝◌, ring, ◌≔◌}
-use Rattle.whole.specs.Lists.{steps, stepsFrom, sum_of, last_of}
+use Rattle.whole.specs.Lists.{steps, steps_from, sum_of, last_of}
 use Rattle.space.specs.Space.{Point, origin, determinant, places}
-use Rattle.ring.specs.Entries.{isUnclosed}
-use Rattle.volume.specs.Part.{partAbout, part}
+use Rattle.ring.specs.Entries.{is_unclosed}
+use Rattle.volume.specs.Part.{part_about, part}
 
 -- the sum over consecutive entries, of what changes its sign when the two change places
 module _ {A : Type 0} (f : A × A → ℤ) (odd : (p q : A) → f (p, q) ≡ neg_ℤ (f (q, p))) where
   regroup : (a b c : ℤ) → neg_ℤ a +ℤ (neg_ℤ b +ℤ c) ≡ neg_ℤ (b +ℤ a) +ℤ c
   regroup = ring 3 (λ a b c. ⊝ a ⊕ (⊝ b ⊕ c) ≔ ⊝ (b ⊕ a) ⊕ c) tt
 
-  sum-reverseAux : (l : List A) (y : A) (r : List A) → sum_of f (steps (reverse_aux l (y ∷ r))) ≡ neg_ℤ (sum_of f (steps (y ∷ l))) +ℤ sum_of f (steps (y ∷ r))
-  unfolding steps stepsFrom sum_of
-  sum-reverseAux [] y r = sym (+ℤ_idl (sum_of f (stepsFrom y r)))
-  sum-reverseAux (x ∷ l) y r =
-      sum-reverseAux l x (y ∷ r)
-      ∙ ap (λ (z : ℤ). neg_ℤ (sum_of f (stepsFrom x l)) +ℤ (z +ℤ sum_of f (stepsFrom y r))) (odd x y)
-      ∙ regroup (sum_of f (stepsFrom x l)) (f (y, x)) (sum_of f (stepsFrom y r))
+  sum-reverse_aux : (l : List A) (y : A) (r : List A) → sum_of f (steps (reverse_aux l (y ∷ r))) ≡ neg_ℤ (sum_of f (steps (y ∷ l))) +ℤ sum_of f (steps (y ∷ r))
+  unfolding steps steps_from sum_of
+  sum-reverse_aux [] y r = sym (+ℤ_idl (sum_of f (steps_from y r)))
+  sum-reverse_aux (x ∷ l) y r =
+      sum-reverse_aux l x (y ∷ r)
+      ∙ ap (λ (z : ℤ). neg_ℤ (sum_of f (steps_from x l)) +ℤ (z +ℤ sum_of f (steps_from y r))) (odd x y)
+      ∙ regroup (sum_of f (steps_from x l)) (f (y, x)) (sum_of f (steps_from y r))
 
   pub sum-reverse : (l : List A) → sum_of f (steps (reverse l)) ≡ neg_ℤ (sum_of f (steps l))
-  unfolding steps stepsFrom sum_of
+  unfolding steps steps_from sum_of
   sum-reverse [] = refl
-  sum-reverse (y ∷ l) = sum-reverseAux l y [] ∙ +ℤ_idr (neg_ℤ (sum_of f (stepsFrom y l)))
+  sum-reverse (y ∷ l) = sum-reverse_aux l y [] ∙ +ℤ_idr (neg_ℤ (sum_of f (steps_from y l)))
 
 determinant-odd : (a p q : Point) → determinant a p q ≡ neg_ℤ (determinant a q p)
 unfolding determinant
@@ -42,22 +42,22 @@ determinant-odd a p q = odd a.x a.y a.z p.x p.y p.z q.x q.y q.z
         ≔ ⊝ (a ⊗ (h ⊗ f ⊖ i ⊗ e) ⊖ b ⊗ (g ⊗ f ⊖ i ⊗ d) ⊕ c ⊗ (g ⊗ e ⊖ h ⊗ d))) tt
 
 -- the part about a point
-pub partFrom : Point → List Point → ℤ
-partFrom a ps = sum_of (λ s. determinant a s.0 s.1) (steps ps)
+pub part_from : Point → List Point → ℤ
+part_from a ps = sum_of (λ s. determinant a s.0 s.1) (steps ps)
 
 unfoldable pub first_of : {A : Type 0} → A → List A → A
 first_of d [] = d
 first_of d (a ∷ l) = a
 
-about-first : (ps : List Point) → partAbout ps ≡ partFrom (first_of origin ps) ps
-unfolding partAbout partFrom first_of steps sum_of
-about-first [] = refl
-about-first (a ∷ l) = refl
+about_first : (ps : List Point) → part_about ps ≡ part_from (first_of origin ps) ps
+unfolding part_about part_from first_of steps sum_of
+about_first [] = refl
+about_first (a ∷ l) = refl
 
-pub first-reverseAux : {A : Type 0} (d : A) (l : List A) (y : A) (r : List A) → first_of d (reverse_aux l (y ∷ r)) ≡ last_of y l
+pub first-reverse_aux : {A : Type 0} (d : A) (l : List A) (y : A) (r : List A) → first_of d (reverse_aux l (y ∷ r)) ≡ last_of y l
 unfolding first_of last_of
-first-reverseAux d [] y r = refl
-first-reverseAux d (x ∷ l) y r = first-reverseAux d l x (y ∷ r)
+first-reverse_aux d [] y r = refl
+first-reverse_aux d (x ∷ l) y r = first-reverse_aux d l x (y ∷ r)
 
 pub last-map : {A B : Type 0} (g : A → B) (a : A) (l : List A) → last_of (g a) (map g l) ≡ g (last_of a l)
 unfolding last_of
@@ -65,19 +65,19 @@ last-map g a [] = refl
 last-map g a (b ∷ l) = last-map g b l
 
 -- of points whose last is the first
-about-turned : (a : Point) (l : List Point) → last_of a l ≡ a → partAbout (reverse (a ∷ l)) ≡ neg_ℤ (partAbout (a ∷ l))
-unfolding partFrom partAbout
-about-turned a l e =
-    about-first (reverse (a ∷ l))
-    ∙ ap (λ (c : Point). partFrom c (reverse (a ∷ l))) (first-reverseAux origin l a [] ∙ e)
+about_turned : (a : Point) (l : List Point) → last_of a l ≡ a → part_about (reverse (a ∷ l)) ≡ neg_ℤ (part_about (a ∷ l))
+unfolding part_from part_about
+about_turned a l e =
+    about_first (reverse (a ∷ l))
+    ∙ ap (λ (c : Point). part_from c (reverse (a ∷ l))) (first-reverse_aux origin l a [] ∙ e)
     ∙ sum-reverse (λ s. determinant a s.0 s.1) (λ p q. determinant-odd a p q) (a ∷ l)
 
 -- Turning negates the part of a closed ring.
-pub part_turned : (points : List Point) (r : List ℕ) → isUnclosed r ≡ false → part points (reverse r) ≡ neg_ℤ (part points r)
-unfolding part places isUnclosed partAbout
+pub part_turned : (points : List Point) (r : List ℕ) → is_unclosed r ≡ false → part points (reverse r) ≡ neg_ℤ (part points r)
+unfolding part places is_unclosed part_about
 part_turned points [] e = refl
 part_turned points (n ∷ l) e =
     let g : ℕ → Point = λ i. get_or points i origin in
     let c : last_of n l ≡ n = sym (eqb-true n (last_of n l) (not-false (eqb n (last_of n l)) e)) in
-    ap partAbout (map_reverse_aux g l (n ∷ []))
-    ∙ about-turned (g n) (map g l) (last-map g n l ∙ ap g c)
+    ap part_about (map_reverse_aux g l (n ∷ []))
+    ∙ about_turned (g n) (map g l) (last-map g n l ∙ ap g c)

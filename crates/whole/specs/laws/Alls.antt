@@ -7,9 +7,9 @@ use Rattle.whole.specs.Lists.{any, at}
 use Rattle.whole.specs.All.{All, none, more}
 
 module _ {A : Type 0} {P : A → Type 0} where
-  pub all-imp : {Q : A → Type 0} {l : List A} → ((x : A) → P x → Q x) → All P l → All Q l
-  all-imp f none = none
-  all-imp f (more {x = x} p a) = more (f x p) (all-imp f a)
+  pub all_imp : {Q : A → Type 0} {l : List A} → ((x : A) → P x → Q x) → All P l → All Q l
+  all_imp f none = none
+  all_imp f (more {x = x} p a) = more (f x p) (all_imp f a)
 
   pub all_append : {s t : List A} → All P s → All P t → All P (s ++ t)
   all_append none b = b
@@ -30,12 +30,12 @@ module _ {A : Type 0} {P : A → Type 0} where
   all-at zero f g (more {x = x} p a) = more (g x p) a
   all-at (suc n) f g (more p a) = more p (all-at n f g a)
 
-  all-reverseAux : {l r : List A} → All P l → All P r → All P (reverse_aux l r)
-  all-reverseAux none b = b
-  all-reverseAux (more p a) b = all-reverseAux a (more p b)
+  all-reverse_aux : {l r : List A} → All P l → All P r → All P (reverse_aux l r)
+  all-reverse_aux none b = b
+  all-reverse_aux (more p a) b = all-reverse_aux a (more p b)
 
   pub all-reverse : {l : List A} → All P l → All P (reverse l)
-  all-reverse a = all-reverseAux a none
+  all-reverse a = all-reverse_aux a none
 
 -- a test that holds of none of a list
 pub any_none : {A : Type 0} (t : A → Bool) (l : List A) → any t l ≡ false → All (λ (x : A). t x ≡ false) l

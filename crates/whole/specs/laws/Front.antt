@@ -14,16 +14,16 @@ module _ {A : Type 0} where
   last-at d a [] = refl
   last-at d a (b ∷ l) = last-at d b l
 
-  pub front-is : (l : List A) → front l ≡ take (length l - 1) l
+  pub front_is : (l : List A) → front l ≡ take (length l - 1) l
   unfolding front
-  front-is [] = refl
-  front-is (a ∷ []) = refl
-  front-is (a ∷ b ∷ l) =
+  front_is [] = refl
+  front_is (a ∷ []) = refl
+  front_is (a ∷ b ∷ l) =
       let e : suc (suc (length l) - 1) ≡ suc (suc (length l)) - 1 = omega arith in
-      ap (λ (m : List A). a ∷ m) (front-is (b ∷ l)) ∙ ap (λ (n : ℕ). take n (a ∷ b ∷ l)) e
+      ap (λ (m : List A). a ∷ m) (front_is (b ∷ l)) ∙ ap (λ (n : ℕ). take n (a ∷ b ∷ l)) e
 
   pub front_length : (l : List A) → length (front l) ≡ length l - 1
-  front_length l = ap length (front-is l) ∙ length-take (length l - 1) l ∙ omega arith
+  front_length l = ap length (front_is l) ∙ length-take (length l - 1) l ∙ omega arith
 
   pub front_at : (l : List A) (i : ℕ) (d : A) → i + 1 < length l → get_or (front l) i d ≡ get_or l i d
-  front_at l i d h = ap (λ (m : List A). get_or m i d) (front-is l) ∙ get_or-take (length l - 1) l i d (omega arith)
+  front_at l i d h = ap (λ (m : List A). get_or m i d) (front_is l) ∙ get_or-take (length l - 1) l i d (omega arith)

@@ -5,11 +5,11 @@ use Rattle.std.proofs.Math.Decide.{dec_lt}
 use Rattle.whole.specs.Least.{Least, LeastBelow}
 
 module _ {P Q : ℕ → Type 0} (f : (v : ℕ) → P v → Q v) (g : (v : ℕ) → Q v → P v) where
-  pub least-as : {x : ℕ} → Least P x → Least Q x
-  least-as {x} l = record { holds = f x l.holds; first = λ j q. l.first j (g j q) }
+  pub least_as : {x : ℕ} → Least P x → Least Q x
+  least_as {x} l = record { holds = f x l.holds; first = λ j q. l.first j (g j q) }
 
   pub below_as : {n r : ℕ} → LeastBelow P n r → LeastBelow Q n r
-  below_as l = record { within = l.within; found = λ h. least-as (l.found h); missing = λ h j q. l.missing h j (g j q) }
+  below_as l = record { within = l.within; found = λ h. least_as (l.found h); missing = λ h j q. l.missing h j (g j q) }
 
 module _ {P : ℕ → Type 0} where
   -- two that are the least below a bound are one

@@ -3,7 +3,7 @@
 use Rattle.std.specs.Prelude.{◌≡◌, List, [], ℕ, zero, suc, ◌+◌, ◌≤◌, ◌<◌, ℤ, ◌≤ℤ◌, ◌<ℤ◌}
 use Rattle.whole.specs.laws.Solve.{E, v, eval, snoc}
 use Rattle.whole.specs.held.Small.{Small}
-use Rattle.whole.specs.laws.Order.{up, down, le-by, le_of, lt_by, lt_of, eq-by, eq_of, small_by, small_of}
+use Rattle.whole.specs.laws.Order.{up, down, le_by, le_of, lt_by, lt_of, eq_by, eq_of, small_by, small_of}
 
 infix 5 ◌≼◌ ◌≺◌ ◌≈◌
 infixr 3 ◌⇒◌
@@ -36,9 +36,9 @@ Parts ρ (p & q) = Parts ρ p × Parts ρ q
 
 mutual
   pub to : (c : Claim) (ρ : List ℤ) → Parts ρ c → Means ρ c
-  to (a ≼ b) ρ h = le-by ρ a b h
+  to (a ≼ b) ρ h = le_by ρ a b h
   to (a ≺ b) ρ h = lt_by ρ a b h
-  to (a ≈ b) ρ h = eq-by ρ a b h
+  to (a ≈ b) ρ h = eq_by ρ a b h
   to (fits n e) ρ h = small_by ρ e h.0 h.1
   to never ρ h = h
   to (p ⇒ q) ρ h = λ m. to q ρ (h (of p ρ m))

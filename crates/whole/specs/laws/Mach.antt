@@ -8,7 +8,7 @@ use Rattle.std.specs.Int.{Width}
 use mir.Val.{SFits, hbits, of_z, to_z}
 use Rattle.whole.specs.laws.Solve.{E, v, k, ◌⊕◌, ◌⊖◌, ◌⊗◌, ⊝◌, eval}
 use Rattle.whole.specs.held.Small.{Small}
-use Rattle.whole.specs.laws.Size.{small-zero, small-add, small-sub, small_mul, small-neg, small-fits, small-back, small-more, call-is}
+use Rattle.whole.specs.laws.Size.{small_zero, small_add, small_sub, small_mul, small_neg, small_fits, small_back, small_more, call_is}
 
 -- a leaf: the number as the goal shows it, the number that it is, and a bound of its size
 pub record Leaf : Type 0 where
@@ -19,11 +19,11 @@ pub record Leaf : Type 0 where
   pub small : Small size is
 
 abbrev none : Leaf
-none = record { seen = pos 0; is = pos 0; size = 0; same = refl; small = small-zero }
+none = record { seen = pos 0; is = pos 0; size = 0; same = refl; small = small_zero }
 
 -- a parameter, an element, a call's result: a whole number z that the machine reads back from its bits
 abbrev pub whole : (w : Width) {n : ℕ} {z : ℤ} → T (ltb n (2 ^ hbits w)) → Small n z → Leaf
-whole w {n} {z} t h = record { seen = to_z w (of_z w z); is = z; size = n; same = small-back w t h; small = h }
+whole w {n} {z} t h = record { seen = to_z w (of_z w z); is = z; size = n; same = small_back w t h; small = h }
 
 -- a loop's variable, of which only the bits are at hand, with what the invariant says of it
 abbrev pub bits_of : (w : Width) (b : ℕ) {z : ℤ} {n : ℕ} → to_z w b ≡ z → Small n z → Leaf
@@ -31,7 +31,7 @@ bits_of w b {z} {n} e h = record { seen = to_z w b; is = z; size = n; same = e; 
 
 -- a call's result r, of which the callee ensures that it is z: `called w64 c.f.ok c.f.ensures small`
 abbrev pub called : (w : Width) {r z : ℤ} {n : ℕ} → mag r < 2 ^ hbits w → r ≡ z → Small n z → Leaf
-called w {r} {z} {n} h e s = record { seen = to_z w (of_z w r); is = z; size = n; same = call-is w h e; small = s }
+called w {r} {z} {n} h e s = record { seen = to_z w (of_z w r); is = z; size = n; same = call_is w h e; small = s }
 
 abbrev pub values : List Leaf → List ℤ
 values [] = []
@@ -79,54 +79,54 @@ and_0 : (a b : Bool) → T (a && b) → T a
 and_0 true b t = tt
 and_0 false b t = t
 
-and-1 : (a b : Bool) → T (a && b) → T b
-and-1 true b t = t
-and-1 false b t = absurd t
+and_1 : (a b : Bool) → T (a && b) → T b
+and_1 true b t = t
+and_1 false b t = absurd t
 
 values-at : (ls : List Leaf) (i : ℕ) → get_or (values ls) i (pos 0) ≡ (leaf ls i).is
 values-at [] i = refl
 values-at (l ∷ ls) zero = refl
 values-at (l ∷ ls) (suc i) = values-at ls i
 
-pub bound-is : (ls : List Leaf) (e : E) → Small (bound ls e) (eval (values ls) e)
-bound-is ls (v i) = subst (λ (z : ℤ). Small (leaf ls i).size z) (sym (values-at ls i)) (leaf ls i).small
-bound-is ls (k z) = record { small = le_refl (nat_abs z) }
-bound-is ls (a ⊕ b) = small-add (bound-is ls a) (bound-is ls b)
-bound-is ls (a ⊖ b) = small-sub (bound-is ls a) (bound-is ls b)
-bound-is ls (a ⊗ b) = small_mul (bound-is ls a) (bound-is ls b)
-bound-is ls (⊝ a) = small-neg (bound-is ls a)
+pub bound_is : (ls : List Leaf) (e : E) → Small (bound ls e) (eval (values ls) e)
+bound_is ls (v i) = subst (λ (z : ℤ). Small (leaf ls i).size z) (sym (values-at ls i)) (leaf ls i).small
+bound_is ls (k z) = record { small = le_refl (nat_abs z) }
+bound_is ls (a ⊕ b) = small_add (bound_is ls a) (bound_is ls b)
+bound_is ls (a ⊖ b) = small_sub (bound_is ls a) (bound_is ls b)
+bound_is ls (a ⊗ b) = small_mul (bound_is ls a) (bound_is ls b)
+bound_is ls (⊝ a) = small_neg (bound_is ls a)
 
 module _ (w : Width) (ls : List Leaf) where
   -- the value fits where its bound is below half the width's power
-  val-fits : (e : E) → T (ltb (bound ls e) (2 ^ hbits w)) → SFits w (eval (values ls) e)
-  val-fits e t = small-fits t (bound-is ls e)
+  val_fits : (e : E) → T (ltb (bound ls e) (2 ^ hbits w)) → SFits w (eval (values ls) e)
+  val_fits e t = small_fits t (bound_is ls e)
 
   step : (x y : ℤ) → x ≡ y → SFits w y → to_z w (of_z w x) ≡ y
   step x y e h = ap (λ (z : ℤ). to_z w (of_z w z)) e ∙ to_z-of_z h
 
-  mach-is : (e : E) → T (inner w ls e) → mach w ls e ≡ eval (values ls) e
-  mach-is (v i) t = (leaf ls i).same ∙ sym (values-at ls i)
-  mach-is (k z) t = refl
-  mach-is (a ⊕ b) t = step (mach w ls a +ℤ mach w ls b) (eval (values ls) (a ⊕ b)) (ap₂ (λ (x y : ℤ). x +ℤ y) (mach-is a (and_0 (inner w ls a) (inner w ls b) (and-1 (ltb (bound ls a + bound ls b) (2 ^ hbits w)) (inner w ls a && inner w ls b) t))) (mach-is b (and-1 (inner w ls a) (inner w ls b) (and-1 (ltb (bound ls a + bound ls b) (2 ^ hbits w)) (inner w ls a && inner w ls b) t)))) (val-fits (a ⊕ b) (and_0 (ltb (bound ls a + bound ls b) (2 ^ hbits w)) (inner w ls a && inner w ls b) t))
-  mach-is (a ⊖ b) t = step (mach w ls a -ℤ mach w ls b) (eval (values ls) (a ⊖ b)) (ap₂ (λ (x y : ℤ). x -ℤ y) (mach-is a (and_0 (inner w ls a) (inner w ls b) (and-1 (ltb (bound ls a + bound ls b) (2 ^ hbits w)) (inner w ls a && inner w ls b) t))) (mach-is b (and-1 (inner w ls a) (inner w ls b) (and-1 (ltb (bound ls a + bound ls b) (2 ^ hbits w)) (inner w ls a && inner w ls b) t)))) (val-fits (a ⊖ b) (and_0 (ltb (bound ls a + bound ls b) (2 ^ hbits w)) (inner w ls a && inner w ls b) t))
-  mach-is (a ⊗ b) t = step (mach w ls a *ℤ mach w ls b) (eval (values ls) (a ⊗ b)) (ap₂ (λ (x y : ℤ). x *ℤ y) (mach-is a (and_0 (inner w ls a) (inner w ls b) (and-1 (ltb (bound ls a * bound ls b) (2 ^ hbits w)) (inner w ls a && inner w ls b) t))) (mach-is b (and-1 (inner w ls a) (inner w ls b) (and-1 (ltb (bound ls a * bound ls b) (2 ^ hbits w)) (inner w ls a && inner w ls b) t)))) (val-fits (a ⊗ b) (and_0 (ltb (bound ls a * bound ls b) (2 ^ hbits w)) (inner w ls a && inner w ls b) t))
-  mach-is (⊝ a) t = step (neg_ℤ (mach w ls a)) (eval (values ls) (⊝ a)) (ap neg_ℤ (mach-is a (and-1 (ltb (bound ls a) (2 ^ hbits w)) (inner w ls a) t))) (val-fits (⊝ a) (and_0 (ltb (bound ls a) (2 ^ hbits w)) (inner w ls a) t))
+  mach_is : (e : E) → T (inner w ls e) → mach w ls e ≡ eval (values ls) e
+  mach_is (v i) t = (leaf ls i).same ∙ sym (values-at ls i)
+  mach_is (k z) t = refl
+  mach_is (a ⊕ b) t = step (mach w ls a +ℤ mach w ls b) (eval (values ls) (a ⊕ b)) (ap₂ (λ (x y : ℤ). x +ℤ y) (mach_is a (and_0 (inner w ls a) (inner w ls b) (and_1 (ltb (bound ls a + bound ls b) (2 ^ hbits w)) (inner w ls a && inner w ls b) t))) (mach_is b (and_1 (inner w ls a) (inner w ls b) (and_1 (ltb (bound ls a + bound ls b) (2 ^ hbits w)) (inner w ls a && inner w ls b) t)))) (val_fits (a ⊕ b) (and_0 (ltb (bound ls a + bound ls b) (2 ^ hbits w)) (inner w ls a && inner w ls b) t))
+  mach_is (a ⊖ b) t = step (mach w ls a -ℤ mach w ls b) (eval (values ls) (a ⊖ b)) (ap₂ (λ (x y : ℤ). x -ℤ y) (mach_is a (and_0 (inner w ls a) (inner w ls b) (and_1 (ltb (bound ls a + bound ls b) (2 ^ hbits w)) (inner w ls a && inner w ls b) t))) (mach_is b (and_1 (inner w ls a) (inner w ls b) (and_1 (ltb (bound ls a + bound ls b) (2 ^ hbits w)) (inner w ls a && inner w ls b) t)))) (val_fits (a ⊖ b) (and_0 (ltb (bound ls a + bound ls b) (2 ^ hbits w)) (inner w ls a && inner w ls b) t))
+  mach_is (a ⊗ b) t = step (mach w ls a *ℤ mach w ls b) (eval (values ls) (a ⊗ b)) (ap₂ (λ (x y : ℤ). x *ℤ y) (mach_is a (and_0 (inner w ls a) (inner w ls b) (and_1 (ltb (bound ls a * bound ls b) (2 ^ hbits w)) (inner w ls a && inner w ls b) t))) (mach_is b (and_1 (inner w ls a) (inner w ls b) (and_1 (ltb (bound ls a * bound ls b) (2 ^ hbits w)) (inner w ls a && inner w ls b) t)))) (val_fits (a ⊗ b) (and_0 (ltb (bound ls a * bound ls b) (2 ^ hbits w)) (inner w ls a && inner w ls b) t))
+  mach_is (⊝ a) t = step (neg_ℤ (mach w ls a)) (eval (values ls) (⊝ a)) (ap neg_ℤ (mach_is a (and_1 (ltb (bound ls a) (2 ^ hbits w)) (inner w ls a) t))) (val_fits (⊝ a) (and_0 (ltb (bound ls a) (2 ^ hbits w)) (inner w ls a) t))
 
-  raw-is : (e : E) → T (inner w ls e) → raw w ls e ≡ eval (values ls) e
-  raw-is (v i) t = mach-is (v i) t
-  raw-is (k z) t = refl
-  raw-is (a ⊕ b) t = ap₂ (λ (x y : ℤ). x +ℤ y) (mach-is a (and_0 (inner w ls a) (inner w ls b) (and-1 (ltb (bound ls a + bound ls b) (2 ^ hbits w)) (inner w ls a && inner w ls b) t))) (mach-is b (and-1 (inner w ls a) (inner w ls b) (and-1 (ltb (bound ls a + bound ls b) (2 ^ hbits w)) (inner w ls a && inner w ls b) t)))
-  raw-is (a ⊖ b) t = ap₂ (λ (x y : ℤ). x -ℤ y) (mach-is a (and_0 (inner w ls a) (inner w ls b) (and-1 (ltb (bound ls a + bound ls b) (2 ^ hbits w)) (inner w ls a && inner w ls b) t))) (mach-is b (and-1 (inner w ls a) (inner w ls b) (and-1 (ltb (bound ls a + bound ls b) (2 ^ hbits w)) (inner w ls a && inner w ls b) t)))
-  raw-is (a ⊗ b) t = ap₂ (λ (x y : ℤ). x *ℤ y) (mach-is a (and_0 (inner w ls a) (inner w ls b) (and-1 (ltb (bound ls a * bound ls b) (2 ^ hbits w)) (inner w ls a && inner w ls b) t))) (mach-is b (and-1 (inner w ls a) (inner w ls b) (and-1 (ltb (bound ls a * bound ls b) (2 ^ hbits w)) (inner w ls a && inner w ls b) t)))
-  raw-is (⊝ a) t = ap neg_ℤ (mach-is a (and-1 (ltb (bound ls a) (2 ^ hbits w)) (inner w ls a) t))
+  raw_is : (e : E) → T (inner w ls e) → raw w ls e ≡ eval (values ls) e
+  raw_is (v i) t = mach_is (v i) t
+  raw_is (k z) t = refl
+  raw_is (a ⊕ b) t = ap₂ (λ (x y : ℤ). x +ℤ y) (mach_is a (and_0 (inner w ls a) (inner w ls b) (and_1 (ltb (bound ls a + bound ls b) (2 ^ hbits w)) (inner w ls a && inner w ls b) t))) (mach_is b (and_1 (inner w ls a) (inner w ls b) (and_1 (ltb (bound ls a + bound ls b) (2 ^ hbits w)) (inner w ls a && inner w ls b) t)))
+  raw_is (a ⊖ b) t = ap₂ (λ (x y : ℤ). x -ℤ y) (mach_is a (and_0 (inner w ls a) (inner w ls b) (and_1 (ltb (bound ls a + bound ls b) (2 ^ hbits w)) (inner w ls a && inner w ls b) t))) (mach_is b (and_1 (inner w ls a) (inner w ls b) (and_1 (ltb (bound ls a + bound ls b) (2 ^ hbits w)) (inner w ls a && inner w ls b) t)))
+  raw_is (a ⊗ b) t = ap₂ (λ (x y : ℤ). x *ℤ y) (mach_is a (and_0 (inner w ls a) (inner w ls b) (and_1 (ltb (bound ls a * bound ls b) (2 ^ hbits w)) (inner w ls a && inner w ls b) t))) (mach_is b (and_1 (inner w ls a) (inner w ls b) (and_1 (ltb (bound ls a * bound ls b) (2 ^ hbits w)) (inner w ls a && inner w ls b) t)))
+  raw_is (⊝ a) t = ap neg_ℤ (mach_is a (and_1 (ltb (bound ls a) (2 ^ hbits w)) (inner w ls a) t))
 
   -- what an operation asks: its result fits
   pub asks : (e : E) → T (inner w ls e && ltb (bound ls e) (2 ^ hbits w)) → SFits w (raw w ls e)
-  asks e t = subst (λ (z : ℤ). SFits w z) (sym (raw-is e (and_0 (inner w ls e) (ltb (bound ls e) (2 ^ hbits w)) t))) (val-fits e (and-1 (inner w ls e) (ltb (bound ls e) (2 ^ hbits w)) t))
+  asks e t = subst (λ (z : ℤ). SFits w z) (sym (raw_is e (and_0 (inner w ls e) (ltb (bound ls e) (2 ^ hbits w)) t))) (val_fits e (and_1 (inner w ls e) (ltb (bound ls e) (2 ^ hbits w)) t))
 
   -- what it yields: the plain value
   pub yields : (e : E) → T (inner w ls e) → mach w ls e ≡ eval (values ls) e
-  yields e t = mach-is e t
+  yields e t = mach_is e t
 
 -- ---- the numbers as they are seen and as they are
 abbrev pub seens : List Leaf → List ℤ
@@ -143,8 +143,8 @@ plain ls e = ap (λ (ρ : List ℤ). eval ρ e) (seens_are ls)
 
 -- an expression of leaves is a leaf again, for what is handed on: an argument, an entry of an array
 abbrev pub node : (w : Width) (ls : List Leaf) (e : E) → T (inner w ls e) → Leaf
-node w ls e t = record { seen = mach w ls e; is = eval (values ls) e; size = bound ls e; same = yields w ls e t; small = bound-is ls e }
+node w ls e t = record { seen = mach w ls e; is = eval (values ls) e; size = bound ls e; same = yields w ls e t; small = bound_is ls e }
 
 -- a leaf as it is seen is small
-pub seen-small : {n : ℕ} (l : Leaf) → T (leb l.size n) → Small n l.seen
-seen-small {n} l t = subst (λ (z : ℤ). Small n z) (sym l.same) (small-more (leb→le l.size n t) l.small)
+pub seen_small : {n : ℕ} (l : Leaf) → T (leb l.size n) → Small n l.seen
+seen_small {n} l t = subst (λ (z : ℤ). Small n z) (sym l.same) (small_more (leb→le l.size n t) l.small)

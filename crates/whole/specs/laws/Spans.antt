@@ -29,16 +29,16 @@ module _ {A : Type 0} where
   span-at f i (suc n) (suc k) d h = let a : i + 1 + k ≡ i + suc k = omega arith in span-at f (i + 1) n k d (omega arith) ∙ ap f a
 
   -- one after the other
-  pub span-append : (f : ℕ → A) (i m n : ℕ) → span f i (m + n) ≡ span f i m ++ span f (i + m) n
+  pub span_append : (f : ℕ → A) (i m n : ℕ) → span f i (m + n) ≡ span f i m ++ span f (i + m) n
   unfolding span
-  span-append f i zero n =
+  span_append f i zero n =
       let a : i ≡ i + 0 = omega arith in
       let b : 0 + n ≡ n = omega arith in
       ap (span f i) b ∙ ap (λ (k : ℕ). span f k n) a
-  span-append f i (suc m) n =
+  span_append f i (suc m) n =
       let a : suc m + n ≡ suc (m + n) = omega arith in
       let b : i + 1 + m ≡ i + suc m = omega arith in
-      ap (span f i) a ∙ ap (λ (l : List A). f i ∷ l) (span-append f (i + 1) m n ∙ ap (λ (k : ℕ). span f (i + 1) m ++ span f k n) b)
+      ap (span f i) a ∙ ap (λ (l : List A). f i ∷ l) (span_append f (i + 1) m n ∙ ap (λ (k : ℕ). span f (i + 1) m ++ span f k n) b)
 
 module _ {A B : Type 0} where
   pub map-span : (g : A → B) (f : ℕ → A) (i n : ℕ) → map g (span f i n) ≡ span (λ k. g (f k)) i n

@@ -42,22 +42,22 @@ module _ {A : Type 0} where
       (λ t. let e : p ≡ n = omega (arith, ltb-false p n t) in rw e (get_or-set_same (upto f d l n) n (f n (get_or l n d)) d (rw length-upto (omega arith))))
 
   -- a turn of the loop that does it
-  pub upto-more : (f : ℕ → A → A) (d : A) (l : List A) (k : ℕ) → set (upto f d l k) k (f k (get_or (upto f d l k) k d)) ≡ upto f d l (k + 1)
+  pub upto_more : (f : ℕ → A → A) (d : A) (l : List A) (k : ℕ) → set (upto f d l k) k (f k (get_or (upto f d l k) k d)) ≡ upto f d l (k + 1)
   unfolding upto
-  upto-more f d l k = rw (add-one, upto_rest f d l k k (omega arith))
+  upto_more f d l k = rw (add-one, upto_rest f d l k k (omega arith))
 
 module _ (l : List ℕ) where
   pub zeroed-none : l ≡ zeroed l 0
   unfolding upto
   zeroed-none = refl
 
-  pub zeroed-more : (m : ℕ) {l' : List ℕ} → l' ≡ zeroed l m → set l' m 0 ≡ zeroed l (m + 1)
-  zeroed-more m e = ap (λ (k : List ℕ). set k m 0) e ∙ upto-more (λ p old. 0) 0 l m
+  pub zeroed_more : (m : ℕ) {l' : List ℕ} → l' ≡ zeroed l m → set l' m 0 ≡ zeroed l (m + 1)
+  zeroed_more m e = ap (λ (k : List ℕ). set k m 0) e ∙ upto_more (λ p old. 0) 0 l m
 
   pub zeroed-length : (m : ℕ) {l' : List ℕ} → l' ≡ zeroed l m → length l' ≡ length l
   zeroed-length m e = ap length e ∙ length-upto (λ p old. 0) 0 l m
 
 -- two runs of stores, one after the other, are one
-pub sets-append : {A : Type 0} (xs ys l : List A) (a : ℕ) → sets (sets l a xs) (a + length xs) ys ≡ sets l a (xs ++ ys)
-sets-append [] ys l a = rw add-zero
-sets-append (x ∷ xs) ys l a = ap (λ (n : ℕ). sets (sets (set l a x) (suc a) xs) n ys) (omega arith) ∙ sets-append xs ys (set l a x) (suc a)
+pub sets_append : {A : Type 0} (xs ys l : List A) (a : ℕ) → sets (sets l a xs) (a + length xs) ys ≡ sets l a (xs ++ ys)
+sets_append [] ys l a = rw add-zero
+sets_append (x ∷ xs) ys l a = ap (λ (n : ℕ). sets (sets (set l a x) (suc a) xs) n ys) (omega arith) ∙ sets_append xs ys (set l a x) (suc a)

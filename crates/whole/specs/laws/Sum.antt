@@ -4,7 +4,7 @@ use Rattle.std.proofs.Common.{sym, ◌∙◌, ap, subst, arith, add-one, mul-suc
 use Rattle.std.proofs.Math.Seq.{drop-length}
 use Rattle.std.proofs.Math.IntN.{+ℤ_idl, +ℤ_idr, +ℤ_assoc}
 use Rattle.whole.specs.held.Small.{Small}
-use Rattle.whole.specs.laws.Size.{small-zero, small-add, small-more}
+use Rattle.whole.specs.laws.Size.{small_zero, small_add, small_more}
 
 -- f of p and the first, of the first and the second, …
 unfoldable pub next : (ℕ → ℕ → ℤ) → ℕ → List ℕ → ℤ
@@ -20,36 +20,36 @@ pub record Acc (f : ℕ → ℕ → ℤ) (b : ℕ) (total : ℤ) (l : List ℕ) 
   pub is : z +ℤ next f p (drop i l) ≡ total
   pub size : Small (b * i) z
 
-pub acc-start : (f : ℕ → ℕ → ℤ) (b p : ℕ) (l : List ℕ) → Acc f b (next f p l) l p 0 (pos 0)
-acc-start f b p l = record { is = +ℤ_idl (next f p l); size = small-zero }
+pub acc_start : (f : ℕ → ℕ → ℤ) (b p : ℕ) (l : List ℕ) → Acc f b (next f p l) l p 0 (pos 0)
+acc_start f b p l = record { is = +ℤ_idl (next f p l); size = small_zero }
 
 unroll : (f : ℕ → ℕ → ℤ) (p : ℕ) (l : List ℕ) (i : ℕ) → i < length l → next f p (drop i l) ≡ f p (get_or l i 0) +ℤ next f (get_or l i 0) (drop (i + 1) l)
 unfolding next
 unroll f p l i h = rw (add-one, drop-cons l i 0 h)
 
-pub acc-step : {f : ℕ → ℕ → ℤ} {b : ℕ} {total : ℤ} {l : List ℕ} {p i : ℕ} {z : ℤ} → Acc f b total l p i z → i < length l → (r : ℤ) → r ≡ f p (get_or l i 0) → Small b (f p (get_or l i 0))
+pub acc_step : {f : ℕ → ℕ → ℤ} {b : ℕ} {total : ℤ} {l : List ℕ} {p i : ℕ} {z : ℤ} → Acc f b total l p i z → i < length l → (r : ℤ) → r ≡ f p (get_or l i 0) → Small b (f p (get_or l i 0))
     → Acc f b total l (get_or l i 0) (i + 1) (z +ℤ r)
-acc-step {f} {b} {total} {l} {p} {i} {z} h lt r e s =
+acc_step {f} {b} {total} {l} {p} {i} {z} h lt r e s =
     record {
       is =
           ap (λ (y : ℤ). z +ℤ y +ℤ next f (get_or l i 0) (drop (i + 1) l)) e
           ∙ +ℤ_assoc z (f p (get_or l i 0)) (next f (get_or l i 0) (drop (i + 1) l))
           ∙ ap (λ (y : ℤ). z +ℤ y) (sym (unroll f p l i lt))
           ∙ h.is;
-      size = small-more (grow b i) (small-add h.size (subst (λ (y : ℤ). Small b y) (sym e) s));
+      size = small_more (grow b i) (small_add h.size (subst (λ (y : ℤ). Small b y) (sym e) s));
     }
   where
     grow : (b i : ℕ) → b * i + b ≤ b * (i + 1)
     grow b i = le_of_eq (rw (add-one, mul-suc))
 
-pub acc-end : {f : ℕ → ℕ → ℤ} {b : ℕ} {total : ℤ} {l : List ℕ} {p i : ℕ} {z : ℤ} → Acc f b total l p i z → i ≡ length l → z ≡ total
+pub acc_end : {f : ℕ → ℕ → ℤ} {b : ℕ} {total : ℤ} {l : List ℕ} {p i : ℕ} {z : ℤ} → Acc f b total l p i z → i ≡ length l → z ≡ total
 unfolding next
-acc-end {f} {b} {total} {l} {p} {i} {z} h e =
+acc_end {f} {b} {total} {l} {p} {i} {z} h e =
     sym (+ℤ_idr z) ∙ ap (λ (r : List ℕ). z +ℤ next f p r) (sym (ap (λ (n : ℕ). drop n l) e ∙ drop-length l)) ∙ h.is
 
 -- where the list has at most m, a sum is at most b * m
-pub acc-small : {f : ℕ → ℕ → ℤ} {b : ℕ} {total : ℤ} {l : List ℕ} {p i : ℕ} {z : ℤ} (m : ℕ) → Acc f b total l p i z → i ≤ m → Small (b * m) z
-acc-small {b = b} m h le = small-more (mul-le-mul_left b le) h.size
+pub acc_small : {f : ℕ → ℕ → ℤ} {b : ℕ} {total : ℤ} {l : List ℕ} {p i : ℕ} {z : ℤ} (m : ℕ) → Acc f b total l p i z → i ≤ m → Small (b * m) z
+acc_small {b = b} m h le = small_more (mul-le-mul_left b le) h.size
 
 pub around-none : (f : ℕ → ℕ → ℤ) (l : List ℕ) → length l ≡ 0 → pos 0 ≡ around f l
 unfolding around next

@@ -16,11 +16,11 @@ one-wide a b h l e = λ i. record { high = high i; low = low i }
     low = omega (arith, high)
 
 -- `product`, `sum` and `squares`: n is the product, the sum, the sum of squares
-pub wide-agrees : (n : ℕ) (r₁ r₂ : Wide) → r₁.low < 2 ^ 64 → r₂.low < 2 ^ 64 → value r₁ ≡ n → value r₂ ≡ n → r₁ ≡ r₂
-wide-agrees n r₁ r₂ h l p q = one-wide r₁ r₂ h l (agree p q)
+pub wide_agrees : (n : ℕ) (r₁ r₂ : Wide) → r₁.low < 2 ^ 64 → r₂.low < 2 ^ 64 → value r₁ ≡ n → value r₂ ≡ n → r₁ ≡ r₂
+wide_agrees n r₁ r₂ h l p q = one-wide r₁ r₂ h l (agree p q)
 
-pub is-less-agrees : (a b : Wide) (r₁ r₂ : Bool) → r₁ ≡ nat_lt (value a) (value b) → r₂ ≡ nat_lt (value a) (value b) → r₁ ≡ r₂
-is-less-agrees a b r₁ r₂ = agree
+pub is_less_agrees : (a b : Wide) (r₁ r₂ : Bool) → r₁ ≡ nat_lt (value a) (value b) → r₂ ≡ nat_lt (value a) (value b) → r₁ ≡ r₂
+is_less_agrees a b r₁ r₂ = agree
 
-pub size-agrees : (z : ℤ) (r₁ r₂ : ℕ) → r₁ ≡ unsigned_abs z → r₂ ≡ unsigned_abs z → r₁ ≡ r₂
-size-agrees z r₁ r₂ = agree
+pub size_agrees : (z : ℤ) (r₁ r₂ : ℕ) → r₁ ≡ unsigned_abs z → r₂ ≡ unsigned_abs z → r₁ ≡ r₂
+size_agrees z r₁ r₂ = agree

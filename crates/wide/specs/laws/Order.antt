@@ -9,15 +9,15 @@ room {m} {n} a b h l t = lt_of_le_of_lt (add-le-add h l) (ltb→lt (m + n) (2 ^ 
 
 -- ---- sums
 -- where a sum is below the square of the base, its high words add up to less than the base
-pub high-below : (base ah al bh bl : ℕ) → ah * base + al + (bh * base + bl) < base * base → ah + bh < base
-high-below base ah al bh bl h = lt_of_mul-lt-mul_right base (lt_of_le_of_lt (less (ah * base) al (bh * base) bl) h)
+pub high_below : (base ah al bh bl : ℕ) → ah * base + al + (bh * base + bl) < base * base → ah + bh < base
+high_below base ah al bh bl h = lt_of_mul-lt-mul_right base (lt_of_le_of_lt (less (ah * base) al (bh * base) bl) h)
   where
     less : (p al q bl : ℕ) → (ah + bh) * base ≤ ah * base + al + (bh * base + bl)
     less p al q bl = omega arith
 
 -- also with one more, where the low words carry
-pub carried-below : (base ah al bh bl : ℕ) → base ≤ al + bl → ah * base + al + (bh * base + bl) < base * base → ah + bh + 1 < base
-carried-below base ah al bh bl c h = lt_of_mul-lt-mul_right base (lt_of_le_of_lt less h)
+pub carried_below : (base ah al bh bl : ℕ) → base ≤ al + bl → ah * base + al + (bh * base + bl) < base * base → ah + bh + 1 < base
+carried_below base ah al bh bl c h = lt_of_mul-lt-mul_right base (lt_of_le_of_lt less h)
   where
     less : (ah + bh + 1) * base ≤ ah * base + al + (bh * base + bl)
     less = omega arith

@@ -3,11 +3,11 @@ use Rattle.std.specs.Prelude.{ℕ, zero, suc, ◌+◌, ◌/◌, ◌%◌, ◌≤�
 
 -- a word holds the edge, the polygon, the entry where the step starts, the one where it ends, and the direction: 0 from the smaller
 -- number to the larger
-abbrev pub keyOf : ℕ → ℕ
-keyOf w = w / 536870912
+abbrev pub key_from : ℕ → ℕ
+key_from w = w / 536870912
 
-abbrev pub polyOf : ℕ → ℕ
-polyOf w = w / 2097152 % 256
+abbrev pub poly_from : ℕ → ℕ
+poly_from w = w / 2097152 % 256
 
 abbrev pub step_of : ℕ → ℕ
 step_of w = w / 2048 % 1024
@@ -15,8 +15,8 @@ step_of w = w / 2048 % 1024
 abbrev pub next_of : ℕ → ℕ
 next_of w = w / 2 % 1024
 
-abbrev pub dirOf : ℕ → ℕ
-dirOf w = w % 2
+abbrev pub dir_of : ℕ → ℕ
+dir_of w = w % 2
 
 abbrev pub pick : ℕ → ℕ → ℕ → ℕ
 pick zero a b = a
@@ -24,14 +24,14 @@ pick (suc d) a b = b
 
 -- the corners of a word at its edge's smaller and larger end
 abbrev pub low_of : ℕ → ℕ
-low_of w = pick (dirOf w) (step_of w) (next_of w)
+low_of w = pick (dir_of w) (step_of w) (next_of w)
 
 abbrev pub high_of : ℕ → ℕ
-high_of w = pick (dirOf w) (next_of w) (step_of w)
+high_of w = pick (dir_of w) (next_of w) (step_of w)
 
 -- what a word joins: 0 its polygon, 1 and 2 its corners
 abbrev pub node_of : ℕ → ℕ → ℕ
-node_of zero w = polyOf w
+node_of zero w = poly_from w
 node_of (suc zero) w = low_of w
 node_of (suc (suc n)) w = high_of w
 

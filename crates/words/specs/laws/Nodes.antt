@@ -1,20 +1,20 @@
 -- The nodes of a word.
 use Rattle.std.specs.Prelude.{ℕ, zero, suc, ◌≡◌, refl}
 use Rattle.std.proofs.Common.{arith}
-use Rattle.words.specs.held.Words.{polyOf}
+use Rattle.words.specs.held.Words.{poly_from}
 use Rattle.words.specs.held.Words.{pick, low_of, high_of, node_of}
 
-pub pick-else : (d a b : ℕ) → (d ≡ 0 → ⊥) → b ≡ pick d a b
-pick-else zero a b h = absurd (h refl)
-pick-else (suc d) a b h = refl
+pub pick_else : (d a b : ℕ) → (d ≡ 0 → ⊥) → b ≡ pick d a b
+pick_else zero a b h = absurd (h refl)
+pick_else (suc d) a b h = refl
 
-pub pick-then : (d a b : ℕ) → d ≡ 0 → a ≡ pick d a b
-pick-then zero a b h = refl
-pick-then (suc d) a b h = omega arith
+pub pick_then : (d a b : ℕ) → d ≡ 0 → a ≡ pick d a b
+pick_then zero a b h = refl
+pick_then (suc d) a b h = omega arith
 
-pub node-poly : (n w : ℕ) → n ≡ 0 → polyOf w ≡ node_of n w
-node-poly zero w h = refl
-node-poly (suc n) w h = omega arith
+pub node_poly : (n w : ℕ) → n ≡ 0 → poly_from w ≡ node_of n w
+node_poly zero w h = refl
+node_poly (suc n) w h = omega arith
 
 pub node-low : (n w x : ℕ) → n ≡ 1 → x ≡ low_of w → x ≡ node_of n w
 node-low zero w x h e = omega arith

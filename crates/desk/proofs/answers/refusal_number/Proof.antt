@@ -1,5 +1,5 @@
 -- `desk::answers::refusal_number` meets its contract.
-use Rattle.service.specs.Service.{refusalNumber}
+use Rattle.service.specs.Service.{refusal_number_of}
 use borrow.Author.Rules.{rules}
 use Rattle.desk.proofs.answers.refusal_number.Statement.{statement}
 use Rattle.desk.proofs.answers.refusal_number.Tie as tie
@@ -29,35 +29,35 @@ enum-told-8 : tie.Need-enum-told-8
 enum-told-8 c = search rules
 
 returns : tie.Need-returns
-unfolding refusalNumber
+unfolding refusal_number_of
 returns c = search rules
 
 returns-2 : tie.Need-returns-2
-unfolding refusalNumber
+unfolding refusal_number_of
 returns-2 c = search rules
 
 returns-3 : tie.Need-returns-3
-unfolding refusalNumber
+unfolding refusal_number_of
 returns-3 c = search rules
 
 returns-4 : tie.Need-returns-4
-unfolding refusalNumber
+unfolding refusal_number_of
 returns-4 c = search rules
 
 returns-5 : tie.Need-returns-5
-unfolding refusalNumber
+unfolding refusal_number_of
 returns-5 c = search rules
 
 returns-6 : tie.Need-returns-6
-unfolding refusalNumber
+unfolding refusal_number_of
 returns-6 c = search rules
 
 returns-7 : tie.Need-returns-7
-unfolding refusalNumber
+unfolding refusal_number_of
 returns-7 c = search rules
 
 returns-8 : tie.Need-returns-8
-unfolding refusalNumber
+unfolding refusal_number_of
 returns-8 c = search rules
 
 pub refusal-number-spec : {M : Type 1} → statement M

@@ -2,21 +2,21 @@
 use mathlib.Core.Bool.{◌&&◌, ◌||◌}
 use lib.Signed.{lt_z}
 use mir.Syntax.{w64}
-use Rattle.whole.specs.laws.Size.{small-back}
+use Rattle.whole.specs.laws.Size.{small_back}
 use Rattle.holes.proofs.bounds.beside.Statement.{statement}
 use Rattle.holes.proofs.bounds.beside.Tie as tie
 
 returns : tie.Need-returns
 returns c =
     let h = c.before.before.before.before.before.before.before.before.requires in
-    let lu = small-back w64 tt h.0.lu in
-    let hu = small-back w64 tt h.0.hu in
-    let lv = small-back w64 tt h.0.lv in
-    let hv = small-back w64 tt h.0.hv in
-    let au = small-back w64 tt h.1.from.on-u in
-    let av = small-back w64 tt h.1.from.on-v in
-    let bu = small-back w64 tt h.1.to.on-u in
-    let bv = small-back w64 tt h.1.to.on-v in
+    let lu = small_back w64 tt h.0.lu in
+    let hu = small_back w64 tt h.0.hu in
+    let lv = small_back w64 tt h.0.lv in
+    let hv = small_back w64 tt h.0.hv in
+    let au = small_back w64 tt h.1.from.on_u in
+    let av = small_back w64 tt h.1.from.on-v in
+    let bu = small_back w64 tt h.1.to.on_u in
+    let bv = small_back w64 tt h.1.to.on-v in
     λ i. lt_z (au i) (lu i) && lt_z (bu i) (lu i) || lt_z (hu i) (au i) && lt_z (hu i) (bu i) || lt_z (av i) (lv i) && lt_z (bv i) (lv i) || lt_z (hv i) (av i) && lt_z (hv i) (bv i)
 
 pub beside-spec : {M : Type 1} → statement M

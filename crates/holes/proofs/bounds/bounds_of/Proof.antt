@@ -5,23 +5,23 @@ use mathlib.Core.Path.{subst}
 use lib.ListN.{length, get_or}
 use mir.Syntax.{w64}
 use borrow.Author.Rules.{rules}
-use Rattle.whole.specs.laws.Size.{call-is}
+use Rattle.whole.specs.laws.Size.{call_is}
 use Rattle.plane.specs.Plane.{Spot}
-use Rattle.fan.specs.held.Fan.{spotIn}
-use Rattle.rays.specs.laws.Seen.{close_at, close-is, spot_is}
+use Rattle.fan.specs.held.Fan.{spot_in}
+use Rattle.rays.specs.laws.Seen.{close_at, close_is, spot_is}
 use Rattle.holes.specs.held.Boxes.{Bounded, Widened}
-use Rattle.holes.specs.laws.Boxes.{bounded-none, bounded-more}
+use Rattle.holes.specs.laws.Boxes.{bounded_none, bounded_more}
 use Rattle.holes.proofs.bounds.bounds_of.Statement.{statement}
 use Rattle.holes.proofs.bounds.bounds_of.Tie as tie
 
 abbrev invariant-loop : tie.invariant-loop
-invariant-loop points ring j k b₀ i₀ b i = Bounded (spotIn points j k) ring i b
+invariant-loop points ring j k b₀ i₀ b i = Bounded (spot_in points j k) ring i b
 
 abbrev decreases-loop : tie.decreases-loop
 decreases-loop points ring j k b₀ i₀ b i = length ring - i
 
 loop-holds : tie.Need-loop-init invariant-loop decreases-loop
-loop-holds c = bounded-none _ _ (record { lu = record { small = omega arith }; hu = record { small = omega arith }; lv = record { small = omega arith }; hv = record { small = omega arith } })
+loop-holds c = bounded_none _ _ (record { lu = record { small = omega arith }; hu = record { small = omega arith }; lv = record { small = omega arith }; hv = record { small = omega arith } })
 
 mul-p : tie.Need-overflow-mul-p invariant-loop decreases-loop
 mul-p c = search rules
@@ -44,8 +44,8 @@ widened-requires c κs =
     let s = c.before.before.before.before.before.before in
     let l = c.before.before.before.before.loop in
     let n = get_or s.args.ring.now l.i 0 in
-    let p = spotIn s.args.points.now s.args.j s.args.k n in
-    (l.invariant.sized, close-is p (call-is w64 c.before.coordinate.type-inv c.before.coordinate.ensures) (call-is w64 c.coordinate2.type-inv c.coordinate2.ensures) (close_at s.args.points.now s.requires.0 s.args.j s.args.k n))
+    let p = spot_in s.args.points.now s.args.j s.args.k n in
+    (l.invariant.sized, close_is p (call_is w64 c.before.coordinate.type-inv c.before.coordinate.ensures) (call_is w64 c.coordinate2.type-inv c.coordinate2.ensures) (close_at s.args.points.now s.requires.0 s.args.j s.args.k n))
 
 add-i : tie.Need-overflow-add-i invariant-loop decreases-loop
 add-i c = search rules
@@ -58,9 +58,9 @@ loop-again c =
     let s = c.before.before.before.before.before.before.before in
     let l = c.before.before.before.before.before.loop in
     let n = get_or s.args.ring.now l.i 0 in
-    let at = spotIn s.args.points.now s.args.j s.args.k in
-    let e = spot_is (at n) (call-is w64 c.before.before.coordinate.type-inv c.before.before.coordinate.ensures) (call-is w64 c.before.coordinate2.type-inv c.before.coordinate2.ensures) in
-    bounded-more at s.args.ring.now l.invariant (close_at s.args.points.now s.requires.0 s.args.j s.args.k n) (subst (λ (p : Spot). Widened l.b p c.widened.result) e c.widened.ensures)
+    let at = spot_in s.args.points.now s.args.j s.args.k in
+    let e = spot_is (at n) (call_is w64 c.before.before.coordinate.type-inv c.before.before.coordinate.ensures) (call_is w64 c.before.coordinate2.type-inv c.before.coordinate2.ensures) in
+    bounded_more at s.args.ring.now l.invariant (close_at s.args.points.now s.requires.0 s.args.j s.args.k n) (subst (λ (p : Spot). Widened l.b p c.widened.result) e c.widened.ensures)
 
 returns : tie.Need-returns invariant-loop decreases-loop
 returns c =

@@ -3,7 +3,7 @@ use mathlib.Core.Bool.{true, false}
 use mathlib.Core.Path.{◌∙◌, ap₂}
 use mir.Syntax.{w64}
 use borrow.Author.Rules.{rules}
-use Rattle.whole.specs.laws.Size.{call-is, small-back}
+use Rattle.whole.specs.laws.Size.{call_is, small_back}
 use Rattle.holes.specs.held.Boxes.{further}
 use Rattle.holes.proofs.bounds.widened.Statement.{statement}
 use Rattle.holes.proofs.bounds.widened.Tie as tie
@@ -24,10 +24,10 @@ returns : tie.Need-returns
 returns c =
     let h = c.before.before.before.before.before.before.before.before.requires in
     record {
-      lu = call-is w64 c.before.before.before.further.type-inv (c.before.before.before.further.ensures ∙ ap₂ (further false) (small-back w64 tt h.0.lu) (small-back w64 tt h.1.on-u));
-      hu = call-is w64 c.before.before.further2.type-inv (c.before.before.further2.ensures ∙ ap₂ (further true) (small-back w64 tt h.0.hu) (small-back w64 tt h.1.on-u));
-      lv = call-is w64 c.before.further3.type-inv (c.before.further3.ensures ∙ ap₂ (further false) (small-back w64 tt h.0.lv) (small-back w64 tt h.1.on-v));
-      hv = call-is w64 c.further4.type-inv (c.further4.ensures ∙ ap₂ (further true) (small-back w64 tt h.0.hv) (small-back w64 tt h.1.on-v));
+      lu = call_is w64 c.before.before.before.further.type-inv (c.before.before.before.further.ensures ∙ ap₂ (further false) (small_back w64 tt h.0.lu) (small_back w64 tt h.1.on_u));
+      hu = call_is w64 c.before.before.further2.type-inv (c.before.before.further2.ensures ∙ ap₂ (further true) (small_back w64 tt h.0.hu) (small_back w64 tt h.1.on_u));
+      lv = call_is w64 c.before.further3.type-inv (c.before.further3.ensures ∙ ap₂ (further false) (small_back w64 tt h.0.lv) (small_back w64 tt h.1.on-v));
+      hv = call_is w64 c.further4.type-inv (c.further4.ensures ∙ ap₂ (further true) (small_back w64 tt h.0.hv) (small_back w64 tt h.1.on-v));
     }
 
 pub widened-spec : {M : Type 1} → statement M

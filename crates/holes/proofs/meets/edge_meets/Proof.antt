@@ -5,15 +5,15 @@ use mathlib.Core.Path.{◌∙◌, sym, ap}
 use lib.ListN.{get_or}
 use borrow.Author.Rules.{rules}
 use Rattle.plane.specs.Plane.{share}
-use Rattle.plane.specs.held.Edges.{asSegment}
-use Rattle.fan.specs.held.Fan.{spotIn}
+use Rattle.plane.specs.held.Edges.{as_segment}
+use Rattle.fan.specs.held.Fan.{spot_in}
 use Rattle.holes.specs.laws.Boxes.{around, beside_none}
 use Rattle.holes.specs.laws.Passes.{ends_of, Left, left-all, left_here, left-next, left_end}
 use Rattle.holes.proofs.meets.edge_meets.Statement.{statement}
 use Rattle.holes.proofs.meets.edge_meets.Tie as tie
 
 abbrev invariant-loop : tie.invariant-loop
-invariant-loop points ring j k e n i₀ i = Left (share (asSegment e)) (spotIn points j k) ring i
+invariant-loop points ring j k e n i₀ i = Left (share (as_segment e)) (spot_in points j k) ring i
 
 abbrev decreases-loop : tie.decreases-loop
 decreases-loop points ring j k e n i₀ i = n - i
@@ -22,7 +22,7 @@ beside-requires : tie.Need-beside-requires invariant-loop decreases-loop
 beside-requires c κs = let h = c.before.requires in (h.1.1.1.sized, h.1.1.0)
 
 returns : tie.Need-returns invariant-loop decreases-loop
-returns c = let h = c.before.before.before.requires in sym (beside_none (asSegment c.before.before.before.args.e) (around h.1.1.1) (sym c.before.beside.ensures ∙ c.if1.true))
+returns c = let h = c.before.before.before.requires in sym (beside_none (as_segment c.before.before.before.args.e) (around h.1.1.1) (sym c.before.beside.ensures ∙ c.if1.true))
 
 loop-holds : tie.Need-loop-init invariant-loop decreases-loop
 loop-holds c = left-all _ _ _
@@ -64,7 +64,7 @@ returns-2 : tie.Need-returns-2 invariant-loop decreases-loop
 returns-2 c =
     let a = c.before.before.before.before.before.before.before.before.before.before.args in
     let l = c.before.before.before.before.before.before.loop in
-    left_here (share (asSegment a.e)) (spotIn a.points.now a.j a.k) a.ring.now l.invariant c.before.before.before.before.before.loop-test.true (ap (share (asSegment a.e)) (sym c.before.before.edge_of.ensures) ∙ sym c.before.share.ensures ∙ c.if2.true)
+    left_here (share (as_segment a.e)) (spot_in a.points.now a.j a.k) a.ring.now l.invariant c.before.before.before.before.before.loop-test.true (ap (share (as_segment a.e)) (sym c.before.before.edge_of.ensures) ∙ sym c.before.share.ensures ∙ c.if2.true)
 
 loop-less : tie.Need-loop-smaller invariant-loop decreases-loop
 loop-less c = search rules
@@ -73,12 +73,12 @@ loop-again : tie.Need-loop-preserved invariant-loop decreases-loop
 loop-again c =
     let a = c.before.before.before.before.before.before.before.before.before.before.args in
     let l = c.before.before.before.before.before.before.loop in
-    left-next (share (asSegment a.e)) (spotIn a.points.now a.j a.k) a.ring.now l.invariant c.before.before.before.before.before.loop-test.true (ap (share (asSegment a.e)) (sym c.before.before.edge_of.ensures) ∙ sym c.before.share.ensures ∙ c.if2.false)
+    left-next (share (as_segment a.e)) (spot_in a.points.now a.j a.k) a.ring.now l.invariant c.before.before.before.before.before.loop-test.true (ap (share (as_segment a.e)) (sym c.before.before.edge_of.ensures) ∙ sym c.before.share.ensures ∙ c.if2.false)
 
 returns-3 : tie.Need-returns-3 invariant-loop decreases-loop
 returns-3 c =
     let a = c.before.before.before.before.before.args in
-    left_end (share (asSegment a.e)) (spotIn a.points.now a.j a.k) a.ring.now c.before.loop.invariant (omega (arith, c.loop-test.false))
+    left_end (share (as_segment a.e)) (spot_in a.points.now a.j a.k) a.ring.now c.before.loop.invariant (omega (arith, c.loop-test.false))
 
 pub edge-meets-spec : {M : Type 1} → statement M
 edge-meets-spec =

@@ -3,15 +3,15 @@ use native.Mathlib.Omega.{arith}
 use Prim.Native.Nat.{◌-◌}
 use mathlib.Core.Path.{◌∙◌, sym}
 use borrow.Author.Rules.{rules}
-use Rattle.rays.specs.held.Seen.{spotsIn}
+use Rattle.rays.specs.held.Seen.{spots_in}
 use Rattle.holes.specs.Holes.{meet}
-use Rattle.holes.specs.held.Rings.{spotsAt}
+use Rattle.holes.specs.held.Rings.{spots_at}
 use Rattle.holes.specs.laws.Passes.{Rest, rest_all, rest-here, rest-next, rest_end}
 use Rattle.holes.proofs.meets.meets_one.Statement.{statement}
 use Rattle.holes.proofs.meets.meets_one.Tie as tie
 
 abbrev invariant-loop : tie.invariant-loop
-invariant-loop points entries starts p to r j k b q₀ q = Rest (spotsAt points j k entries starts) (meet (spotsIn points j k r)) p to q
+invariant-loop points entries starts p to r j k b q₀ q = Rest (spots_at points j k entries starts) (meet (spots_in points j k r)) p to q
 
 abbrev decreases-loop : tie.decreases-loop
 decreases-loop points entries starts p to r j k b q₀ q = to - q
@@ -32,7 +32,7 @@ returns : tie.Need-returns invariant-loop decreases-loop
 returns c =
     let a = c.before.before.before.before.before.before.args in
     let l = c.before.before.before.loop in
-    rest-here (spotsAt a.points.now a.j a.k a.entries.now a.starts.now) (meet (spotsIn a.points.now a.j a.k a.r.now)) a.p a.to l.invariant c.before.before.loop-test.true (sym c.before.meets-ring.ensures ∙ c.if1.true)
+    rest-here (spots_at a.points.now a.j a.k a.entries.now a.starts.now) (meet (spots_in a.points.now a.j a.k a.r.now)) a.p a.to l.invariant c.before.before.loop-test.true (sym c.before.meets-ring.ensures ∙ c.if1.true)
 
 add-q : tie.Need-overflow-add-q invariant-loop decreases-loop
 add-q c = search rules
@@ -44,12 +44,12 @@ loop-again : tie.Need-loop-preserved invariant-loop decreases-loop
 loop-again c =
     let a = c.before.before.before.before.before.before.args in
     let l = c.before.before.before.loop in
-    rest-next (spotsAt a.points.now a.j a.k a.entries.now a.starts.now) (meet (spotsIn a.points.now a.j a.k a.r.now)) a.p a.to l.invariant c.before.before.loop-test.true (sym c.before.meets-ring.ensures ∙ c.if1.false)
+    rest-next (spots_at a.points.now a.j a.k a.entries.now a.starts.now) (meet (spots_in a.points.now a.j a.k a.r.now)) a.p a.to l.invariant c.before.before.loop-test.true (sym c.before.meets-ring.ensures ∙ c.if1.false)
 
 returns-2 : tie.Need-returns-2 invariant-loop decreases-loop
 returns-2 c =
     let a = c.before.before.before.before.args in
-    rest_end (spotsAt a.points.now a.j a.k a.entries.now a.starts.now) (meet (spotsIn a.points.now a.j a.k a.r.now)) a.p a.to c.before.loop.invariant (omega (arith, c.loop-test.false))
+    rest_end (spots_at a.points.now a.j a.k a.entries.now a.starts.now) (meet (spots_in a.points.now a.j a.k a.r.now)) a.p a.to c.before.loop.invariant (omega (arith, c.loop-test.false))
 
 pub meets-one-spec : {M : Type 1} → statement M
 meets-one-spec =

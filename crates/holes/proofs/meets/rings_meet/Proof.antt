@@ -6,15 +6,15 @@ use lib.ListN.{get_or}
 use borrow.Author.Rules.{rules}
 use Rattle.whole.specs.Lists.{any, steps}
 use Rattle.plane.specs.Plane.{Segment, share}
-use Rattle.fan.specs.held.Fan.{spotIn}
-use Rattle.rays.specs.held.Seen.{spotsIn}
+use Rattle.fan.specs.held.Fan.{spot_in}
+use Rattle.rays.specs.held.Seen.{spots_in}
 use Rattle.holes.specs.Holes.{meet}
 use Rattle.holes.specs.laws.Passes.{ends_of, Left, left-all, left_here, left-next, left_end}
 use Rattle.holes.proofs.meets.rings_meet.Statement.{statement}
 use Rattle.holes.proofs.meets.rings_meet.Tie as tie
 
 abbrev invariant-loop : tie.invariant-loop
-invariant-loop points r s j k b n i₀ i = Left (λ e. any (share e) (steps (spotsIn points j k s))) (spotIn points j k) r i
+invariant-loop points r s j k b n i₀ i = Left (λ e. any (share e) (steps (spots_in points j k s))) (spot_in points j k) r i
 
 abbrev decreases-loop : tie.decreases-loop
 decreases-loop points r s j k b n i₀ i = n - i
@@ -60,7 +60,7 @@ returns : tie.Need-returns invariant-loop decreases-loop
 unfolding meet
 returns c =
     let a = c.before.before.before.before.before.before.before.before.before.args in
-    left_here (λ e. any (share e) (steps (spotsIn a.points.now a.j a.k a.s.now))) (spotIn a.points.now a.j a.k) a.r.now c.before.before.before.before.before.before.loop.invariant c.before.before.before.before.before.loop-test.true (ap (λ (e : Segment). any (share e) (steps (spotsIn a.points.now a.j a.k a.s.now))) (sym c.before.before.edge_of.ensures) ∙ sym c.before.edge-meets.ensures ∙ c.if1.true)
+    left_here (λ e. any (share e) (steps (spots_in a.points.now a.j a.k a.s.now))) (spot_in a.points.now a.j a.k) a.r.now c.before.before.before.before.before.before.loop.invariant c.before.before.before.before.before.loop-test.true (ap (λ (e : Segment). any (share e) (steps (spots_in a.points.now a.j a.k a.s.now))) (sym c.before.before.edge_of.ensures) ∙ sym c.before.edge-meets.ensures ∙ c.if1.true)
 
 loop-less : tie.Need-loop-smaller invariant-loop decreases-loop
 loop-less c = search rules
@@ -68,13 +68,13 @@ loop-less c = search rules
 loop-again : tie.Need-loop-preserved invariant-loop decreases-loop
 loop-again c =
     let a = c.before.before.before.before.before.before.before.before.before.args in
-    left-next (λ e. any (share e) (steps (spotsIn a.points.now a.j a.k a.s.now))) (spotIn a.points.now a.j a.k) a.r.now c.before.before.before.before.before.before.loop.invariant c.before.before.before.before.before.loop-test.true (ap (λ (e : Segment). any (share e) (steps (spotsIn a.points.now a.j a.k a.s.now))) (sym c.before.before.edge_of.ensures) ∙ sym c.before.edge-meets.ensures ∙ c.if1.false)
+    left-next (λ e. any (share e) (steps (spots_in a.points.now a.j a.k a.s.now))) (spot_in a.points.now a.j a.k) a.r.now c.before.before.before.before.before.before.loop.invariant c.before.before.before.before.before.loop-test.true (ap (λ (e : Segment). any (share e) (steps (spots_in a.points.now a.j a.k a.s.now))) (sym c.before.before.edge_of.ensures) ∙ sym c.before.edge-meets.ensures ∙ c.if1.false)
 
 returns-2 : tie.Need-returns-2 invariant-loop decreases-loop
 unfolding meet
 returns-2 c =
     let a = c.before.before.before.before.args in
-    left_end (λ e. any (share e) (steps (spotsIn a.points.now a.j a.k a.s.now))) (spotIn a.points.now a.j a.k) a.r.now c.before.loop.invariant (omega (arith, c.loop-test.false))
+    left_end (λ e. any (share e) (steps (spots_in a.points.now a.j a.k a.s.now))) (spot_in a.points.now a.j a.k) a.r.now c.before.loop.invariant (omega (arith, c.loop-test.false))
 
 pub rings-meet-spec : {M : Type 1} → statement M
 rings-meet-spec =

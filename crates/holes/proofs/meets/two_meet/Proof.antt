@@ -4,14 +4,14 @@ use Prim.Native.Nat.{◌-◌, ◌+◌, ◌<◌}
 use mathlib.Core.Path.{◌∙◌, sym}
 use borrow.Author.Rules.{rules}
 use Rattle.holes.specs.Holes.{meet}
-use Rattle.holes.specs.held.Rings.{spotsAt}
+use Rattle.holes.specs.held.Rings.{spots_at}
 use Rattle.holes.specs.laws.Tables.{rings-from}
 use Rattle.holes.specs.laws.Passes.{Rests, rests-all, rests-here, rests-next, rests-last}
 use Rattle.holes.proofs.meets.two_meet.Statement.{statement}
 use Rattle.holes.proofs.meets.two_meet.Tie as tie
 
 abbrev invariant-loop : tie.invariant-loop
-invariant-loop points entries starts from to j k p₀ p = (Rests (spotsAt points j k entries starts) meet from to p) × (p < to)
+invariant-loop points entries starts from to j k p₀ p = (Rests (spots_at points j k entries starts) meet from to p) × (p < to)
 
 abbrev decreases-loop : tie.decreases-loop
 decreases-loop points entries starts from to j k p₀ p = to - p
@@ -32,7 +32,7 @@ returns : tie.Need-returns invariant-loop decreases-loop
 returns c =
     let a = c.before.before.before.before.args in
     let l = c.before.before.before.loop in
-    rests-here (spotsAt a.points.now a.j a.k a.entries.now a.starts.now) meet a.from a.to l.invariant.0 l.invariant.1 (sym c.before.meets-later.ensures ∙ c.if1.true)
+    rests-here (spots_at a.points.now a.j a.k a.entries.now a.starts.now) meet a.from a.to l.invariant.0 l.invariant.1 (sym c.before.meets-later.ensures ∙ c.if1.true)
 
 add-p : tie.Need-overflow-add-p invariant-loop decreases-loop
 add-p c = search rules
@@ -44,13 +44,13 @@ loop-again : tie.Need-loop-preserved invariant-loop decreases-loop
 loop-again c =
     let a = c.before.before.before.before.args in
     let l = c.before.before.before.loop in
-    (rests-next (spotsAt a.points.now a.j a.k a.entries.now a.starts.now) meet a.from a.to l.invariant.0 l.invariant.1 (sym c.before.meets-later.ensures ∙ c.if1.false), c.before.before.loop-test.true)
+    (rests-next (spots_at a.points.now a.j a.k a.entries.now a.starts.now) meet a.from a.to l.invariant.0 l.invariant.1 (sym c.before.meets-later.ensures ∙ c.if1.false), c.before.before.loop-test.true)
 
 returns-2 : tie.Need-returns-2 invariant-loop decreases-loop
 returns-2 c =
     let a = c.before.before.args in
     let l = c.before.loop in
-    rests-last (spotsAt a.points.now a.j a.k a.entries.now a.starts.now) meet a.from a.to l.invariant.0 l.invariant.1 (omega (arith, c.loop-test.false))
+    rests-last (spots_at a.points.now a.j a.k a.entries.now a.starts.now) meet a.from a.to l.invariant.0 l.invariant.1 (omega (arith, c.loop-test.false))
 
 pub two-meet-spec : {M : Type 1} → statement M
 two-meet-spec =

@@ -4,15 +4,15 @@ use native.Mathlib.Nat.{le_refl}
 use Prim.Native.Nat.{◌-◌, ◌+◌}
 use mathlib.Core.Path.{◌∙◌, sym}
 use borrow.Author.Rules.{rules}
-use Rattle.fan.specs.held.Fan.{spotIn}
-use Rattle.holes.specs.held.Rings.{spotsAt}
+use Rattle.fan.specs.held.Fan.{spot_in}
+use Rattle.holes.specs.held.Rings.{spots_at}
 use Rattle.holes.specs.laws.Corners.{nested}
 use Rattle.holes.specs.laws.Passes.{Rest, rest_all, rest-here, rest-next, rest_end}
 use Rattle.misplaced.proofs.corners.nested_later.Statement.{statement}
 use Rattle.misplaced.proofs.corners.nested_later.Tie as tie
 
 abbrev invariant-loop : tie.invariant-loop
-invariant-loop points entries starts p to j k q₀ q = Rest (spotsAt points j k entries starts) (nested (spotIn points j k 0) (spotsAt points j k entries starts p)) (p + 1) to q
+invariant-loop points entries starts p to j k q₀ q = Rest (spots_at points j k entries starts) (nested (spot_in points j k 0) (spots_at points j k entries starts p)) (p + 1) to q
 
 abbrev decreases-loop : tie.decreases-loop
 decreases-loop points entries starts p to j k q₀ q = to - q
@@ -35,7 +35,7 @@ two-nested-requires c κs =
 returns : tie.Need-returns invariant-loop decreases-loop
 returns c =
     let a = c.before.before.before.before.args in
-    rest-here (spotsAt a.points.now a.j a.k a.entries.now a.starts.now) (nested (spotIn a.points.now a.j a.k 0) (spotsAt a.points.now a.j a.k a.entries.now a.starts.now a.p)) (a.p + 1) a.to c.before.before.before.loop.invariant c.before.before.loop-test.true (sym c.before.two-nested.ensures ∙ c.if1.true)
+    rest-here (spots_at a.points.now a.j a.k a.entries.now a.starts.now) (nested (spot_in a.points.now a.j a.k 0) (spots_at a.points.now a.j a.k a.entries.now a.starts.now a.p)) (a.p + 1) a.to c.before.before.before.loop.invariant c.before.before.loop-test.true (sym c.before.two-nested.ensures ∙ c.if1.true)
 
 add-q-2 : tie.Need-overflow-add-q-2 invariant-loop decreases-loop
 add-q-2 c = search rules
@@ -46,12 +46,12 @@ loop-less c = search rules
 loop-again : tie.Need-loop-preserved invariant-loop decreases-loop
 loop-again c =
     let a = c.before.before.before.before.args in
-    rest-next (spotsAt a.points.now a.j a.k a.entries.now a.starts.now) (nested (spotIn a.points.now a.j a.k 0) (spotsAt a.points.now a.j a.k a.entries.now a.starts.now a.p)) (a.p + 1) a.to c.before.before.before.loop.invariant c.before.before.loop-test.true (sym c.before.two-nested.ensures ∙ c.if1.false)
+    rest-next (spots_at a.points.now a.j a.k a.entries.now a.starts.now) (nested (spot_in a.points.now a.j a.k 0) (spots_at a.points.now a.j a.k a.entries.now a.starts.now a.p)) (a.p + 1) a.to c.before.before.before.loop.invariant c.before.before.loop-test.true (sym c.before.two-nested.ensures ∙ c.if1.false)
 
 returns-2 : tie.Need-returns-2 invariant-loop decreases-loop
 returns-2 c =
     let a = c.before.before.args in
-    rest_end (spotsAt a.points.now a.j a.k a.entries.now a.starts.now) (nested (spotIn a.points.now a.j a.k 0) (spotsAt a.points.now a.j a.k a.entries.now a.starts.now a.p)) (a.p + 1) a.to c.before.loop.invariant (omega (arith, c.loop-test.false))
+    rest_end (spots_at a.points.now a.j a.k a.entries.now a.starts.now) (nested (spot_in a.points.now a.j a.k 0) (spots_at a.points.now a.j a.k a.entries.now a.starts.now a.p)) (a.p + 1) a.to c.before.loop.invariant (omega (arith, c.loop-test.false))
 
 pub nested-later-spec : {M : Type 1} → statement M
 nested-later-spec =

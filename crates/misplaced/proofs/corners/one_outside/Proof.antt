@@ -5,15 +5,15 @@ use Prim.Native.Nat.{◌-◌, ◌+◌}
 use mathlib.Core.Path.{◌∙◌, sym, ap}
 use mathlib.Core.Bool.{not}
 use borrow.Author.Rules.{rules}
-use Rattle.fan.specs.held.Fan.{spotIn}
-use Rattle.holes.specs.held.Rings.{spotsAt}
+use Rattle.fan.specs.held.Fan.{spot_in}
+use Rattle.holes.specs.held.Rings.{spots_at}
 use Rattle.holes.specs.laws.Corners.{stands}
 use Rattle.holes.specs.laws.Passes.{Rest, rest_all, rest-here, rest-next, rest_end}
 use Rattle.misplaced.proofs.corners.one_outside.Statement.{statement}
 use Rattle.misplaced.proofs.corners.one_outside.Tie as tie
 
 abbrev invariant-loop : tie.invariant-loop
-invariant-loop points entries starts from to j k q₀ q = Rest (spotsAt points j k entries starts) (λ s. not (stands (spotIn points j k 0) s (spotsAt points j k entries starts from))) (from + 1) to q
+invariant-loop points entries starts from to j k q₀ q = Rest (spots_at points j k entries starts) (λ s. not (stands (spot_in points j k 0) s (spots_at points j k entries starts from))) (from + 1) to q
 
 abbrev decreases-loop : tie.decreases-loop
 decreases-loop points entries starts from to j k q₀ q = to - q
@@ -35,7 +35,7 @@ stands-in-requires c κs =
 returns : tie.Need-returns invariant-loop decreases-loop
 returns c =
     let a = c.before.before.before.before.args in
-    rest-here (spotsAt a.points.now a.j a.k a.entries.now a.starts.now) (λ s. not (stands (spotIn a.points.now a.j a.k 0) s (spotsAt a.points.now a.j a.k a.entries.now a.starts.now a.from))) (a.from + 1) a.to c.before.before.before.loop.invariant c.before.before.loop-test.true (ap not (sym c.before.stands-in.ensures) ∙ c.if1.true)
+    rest-here (spots_at a.points.now a.j a.k a.entries.now a.starts.now) (λ s. not (stands (spot_in a.points.now a.j a.k 0) s (spots_at a.points.now a.j a.k a.entries.now a.starts.now a.from))) (a.from + 1) a.to c.before.before.before.loop.invariant c.before.before.loop-test.true (ap not (sym c.before.stands-in.ensures) ∙ c.if1.true)
 
 add-q-2 : tie.Need-overflow-add-q-2 invariant-loop decreases-loop
 add-q-2 c = search rules
@@ -46,12 +46,12 @@ loop-less c = search rules
 loop-again : tie.Need-loop-preserved invariant-loop decreases-loop
 loop-again c =
     let a = c.before.before.before.before.args in
-    rest-next (spotsAt a.points.now a.j a.k a.entries.now a.starts.now) (λ s. not (stands (spotIn a.points.now a.j a.k 0) s (spotsAt a.points.now a.j a.k a.entries.now a.starts.now a.from))) (a.from + 1) a.to c.before.before.before.loop.invariant c.before.before.loop-test.true (ap not (sym c.before.stands-in.ensures) ∙ c.if1.false)
+    rest-next (spots_at a.points.now a.j a.k a.entries.now a.starts.now) (λ s. not (stands (spot_in a.points.now a.j a.k 0) s (spots_at a.points.now a.j a.k a.entries.now a.starts.now a.from))) (a.from + 1) a.to c.before.before.before.loop.invariant c.before.before.loop-test.true (ap not (sym c.before.stands-in.ensures) ∙ c.if1.false)
 
 returns-2 : tie.Need-returns-2 invariant-loop decreases-loop
 returns-2 c =
     let a = c.before.before.args in
-    rest_end (spotsAt a.points.now a.j a.k a.entries.now a.starts.now) (λ s. not (stands (spotIn a.points.now a.j a.k 0) s (spotsAt a.points.now a.j a.k a.entries.now a.starts.now a.from))) (a.from + 1) a.to c.before.loop.invariant (omega (arith, c.loop-test.false))
+    rest_end (spots_at a.points.now a.j a.k a.entries.now a.starts.now) (λ s. not (stands (spot_in a.points.now a.j a.k 0) s (spots_at a.points.now a.j a.k a.entries.now a.starts.now a.from))) (a.from + 1) a.to c.before.loop.invariant (omega (arith, c.loop-test.false))
 
 pub one-outside-spec : {M : Type 1} → statement M
 one-outside-spec =

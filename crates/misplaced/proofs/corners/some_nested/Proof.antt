@@ -3,8 +3,8 @@ use native.Mathlib.Omega.{arith}
 use Prim.Native.Nat.{◌-◌}
 use mathlib.Core.Path.{◌∙◌, sym}
 use borrow.Author.Rules.{rules}
-use Rattle.fan.specs.held.Fan.{spotIn}
-use Rattle.holes.specs.held.Rings.{spotsAt}
+use Rattle.fan.specs.held.Fan.{spot_in}
+use Rattle.holes.specs.held.Rings.{spots_at}
 use Rattle.holes.specs.laws.Corners.{nested}
 use Rattle.holes.specs.laws.Tables.{rings-from, filled-from}
 use Rattle.holes.specs.laws.Passes.{Rests, rests-all, rests-here, rests-next, rests-end}
@@ -12,7 +12,7 @@ use Rattle.misplaced.proofs.corners.some_nested.Statement.{statement}
 use Rattle.misplaced.proofs.corners.some_nested.Tie as tie
 
 abbrev invariant-loop : tie.invariant-loop
-invariant-loop points entries starts from to j k p₀ p = Rests (spotsAt points j k entries starts) (nested (spotIn points j k 0)) from to p
+invariant-loop points entries starts from to j k p₀ p = Rests (spots_at points j k entries starts) (nested (spot_in points j k 0)) from to p
 
 abbrev decreases-loop : tie.decreases-loop
 decreases-loop points entries starts from to j k p₀ p = to - p
@@ -29,7 +29,7 @@ nested-later-requires c κs =
 returns : tie.Need-returns invariant-loop decreases-loop
 returns c =
     let a = c.before.before.before.before.args in
-    rests-here (spotsAt a.points.now a.j a.k a.entries.now a.starts.now) (nested (spotIn a.points.now a.j a.k 0)) a.from a.to c.before.before.before.loop.invariant c.before.before.loop-test.true (sym c.before.nested-later.ensures ∙ c.if1.true)
+    rests-here (spots_at a.points.now a.j a.k a.entries.now a.starts.now) (nested (spot_in a.points.now a.j a.k 0)) a.from a.to c.before.before.before.loop.invariant c.before.before.loop-test.true (sym c.before.nested-later.ensures ∙ c.if1.true)
 
 add-p : tie.Need-overflow-add-p invariant-loop decreases-loop
 add-p c = search rules
@@ -40,12 +40,12 @@ loop-less c = search rules
 loop-again : tie.Need-loop-preserved invariant-loop decreases-loop
 loop-again c =
     let a = c.before.before.before.before.args in
-    rests-next (spotsAt a.points.now a.j a.k a.entries.now a.starts.now) (nested (spotIn a.points.now a.j a.k 0)) a.from a.to c.before.before.before.loop.invariant c.before.before.loop-test.true (sym c.before.nested-later.ensures ∙ c.if1.false)
+    rests-next (spots_at a.points.now a.j a.k a.entries.now a.starts.now) (nested (spot_in a.points.now a.j a.k 0)) a.from a.to c.before.before.before.loop.invariant c.before.before.loop-test.true (sym c.before.nested-later.ensures ∙ c.if1.false)
 
 returns-2 : tie.Need-returns-2 invariant-loop decreases-loop
 returns-2 c =
     let a = c.before.before.args in
-    rests-end (spotsAt a.points.now a.j a.k a.entries.now a.starts.now) (nested (spotIn a.points.now a.j a.k 0)) a.from a.to c.before.loop.invariant (omega (arith, c.loop-test.false))
+    rests-end (spots_at a.points.now a.j a.k a.entries.now a.starts.now) (nested (spot_in a.points.now a.j a.k 0)) a.from a.to c.before.loop.invariant (omega (arith, c.loop-test.false))
 
 pub some-nested-spec : {M : Type 1} → statement M
 some-nested-spec =

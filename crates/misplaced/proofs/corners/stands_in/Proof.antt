@@ -6,14 +6,14 @@ use mir.Syntax.{w64}
 use borrow.Author.Rules.{rules}
 use Rattle.whole.specs.Lists.{steps}
 use Rattle.whole.specs.laws.Places.{map_at}
-use Rattle.whole.specs.laws.Size.{call-is}
+use Rattle.whole.specs.laws.Size.{call_is}
 use Rattle.plane.specs.Plane.{Spot}
-use Rattle.fan.specs.held.Fan.{spotIn}
-use Rattle.ring.specs.held.Rings.{ringAt}
+use Rattle.fan.specs.held.Fan.{spot_in}
+use Rattle.ring.specs.held.Rings.{ring_at}
 use Rattle.rays.specs.Inside.{inside}
-use Rattle.rays.specs.laws.Seen.{close_at, close-is, spot_is}
-use Rattle.holes.specs.held.Rings.{spotsAt}
-use Rattle.holes.specs.laws.Tables.{first-lies, first-is, first-known}
+use Rattle.rays.specs.laws.Seen.{close_at, close_is, spot_is}
+use Rattle.holes.specs.held.Rings.{spots_at}
+use Rattle.holes.specs.laws.Tables.{first_lies, first_is, first_known}
 use Rattle.misplaced.proofs.corners.stands_in.Statement.{statement}
 use Rattle.misplaced.proofs.corners.stands_in.Tie as tie
 
@@ -30,13 +30,13 @@ mul-corner : tie.Need-overflow-mul-corner
 mul-corner c = search rules
 
 element-copy-out-corner : tie.Need-element-copy-out-corner
-element-copy-out-corner c = let h = c.before.requires.1.0 in omega (arith, first-lies h.0 h.1, h.0.entries-size)
+element-copy-out-corner c = let h = c.before.requires.1.0 in omega (arith, first_lies h.0 h.1, h.0.entries-size)
 
 coordinate-requires : tie.Need-coordinate-requires
-coordinate-requires c κs = let h = c.before.before.requires in (h.0, (first-known h.1.0.0 h.1.0.1, h.1.1.1.first))
+coordinate-requires c κs = let h = c.before.before.requires in (h.0, (first_known h.1.0.0 h.1.0.1, h.1.1.1.first))
 
 coordinate-requires-2 : tie.Need-coordinate-requires-2
-coordinate-requires-2 c κs = let h = c.before.before.before.requires in (h.0, (first-known h.1.0.0 h.1.0.1, h.1.1.1.second))
+coordinate-requires-2 c κs = let h = c.before.before.before.requires in (h.0, (first_known h.1.0.0 h.1.0.1, h.1.1.1.second))
 
 mul-from : tie.Need-overflow-mul-from
 mul-from c = search rules
@@ -76,19 +76,19 @@ inside-requires c κs =
     let h = c.before.before.before.before.before.before.before.before.requires in
     let a = c.before.before.before.before.before.before.before.before.args in
     let n = get_or a.entries.now (get_or a.starts.now a.p 0) 0 in
-    let p = spotIn a.points.now a.j a.k n in
-    (h.0, (h.1.1.0.known, (h.1.1.1, close-is p (call-is w64 c.before.before.before.before.before.coordinate.type-inv c.before.before.before.before.before.coordinate.ensures) (call-is w64 c.before.before.before.before.coordinate2.type-inv c.before.before.before.before.coordinate2.ensures) (close_at a.points.now h.0 a.j a.k n))))
+    let p = spot_in a.points.now a.j a.k n in
+    (h.0, (h.1.1.0.known, (h.1.1.1, close_is p (call_is w64 c.before.before.before.before.before.coordinate.type-inv c.before.before.before.before.before.coordinate.ensures) (call_is w64 c.before.before.before.before.coordinate2.type-inv c.before.before.before.before.coordinate2.ensures) (close_at a.points.now h.0 a.j a.k n))))
 
 returns : tie.Need-returns
 returns c =
     let h = c.before.before.before.before.before.before.before.before.before.requires.1.0 in
     let a = c.before.before.before.before.before.before.before.before.before.args in
-    let at = spotIn a.points.now a.j a.k in
+    let at = spot_in a.points.now a.j a.k in
     let n = get_or a.entries.now (get_or a.starts.now a.p 0) 0 in
-    let e = spot_is (at n) (call-is w64 c.before.before.before.before.before.before.coordinate.type-inv c.before.before.before.before.before.before.coordinate.ensures) (call-is w64 c.before.before.before.before.before.coordinate2.type-inv c.before.before.before.before.before.coordinate2.ensures) in
+    let e = spot_is (at n) (call_is w64 c.before.before.before.before.before.before.coordinate.type-inv c.before.before.before.before.before.before.coordinate.ensures) (call_is w64 c.before.before.before.before.before.coordinate2.type-inv c.before.before.before.before.before.coordinate2.ensures) in
     c.inside.ensures
-    ∙ ap (λ (q : Spot). inside q (steps (spotsAt a.points.now a.j a.k a.entries.now a.starts.now a.q)))
-    (e ∙ ap at (first-is h.0 h.1) ∙ sym (map_at at (ringAt a.entries.now a.starts.now a.p) 0 0 (at 0) h.1))
+    ∙ ap (λ (q : Spot). inside q (steps (spots_at a.points.now a.j a.k a.entries.now a.starts.now a.q)))
+    (e ∙ ap at (first_is h.0 h.1) ∙ sym (map_at at (ring_at a.entries.now a.starts.now a.p) 0 0 (at 0) h.1))
 
 pub stands-in-spec : {M : Type 1} → statement M
 stands-in-spec =

@@ -4,10 +4,10 @@ use mathlib.Core.Bool.{not}
 use lib.IntN.{ℤ}
 use mir.Syntax.{w64}
 use borrow.Author.Rules.{rules}
-use Rattle.whole.specs.laws.Size.{small-back}
+use Rattle.whole.specs.laws.Size.{small_back}
 use Rattle.space.specs.held.Points.{points_of}
-use Rattle.ring.specs.held.Rings.{ringAt}
-use Rattle.holes.specs.Holes.{componentOf, isOpposite}
+use Rattle.ring.specs.held.Rings.{ring_at}
+use Rattle.holes.specs.Holes.{component_of, is_opposite}
 use Rattle.misplaced.proofs.facing.ring_faces.Statement.{statement}
 use Rattle.misplaced.proofs.facing.ring_faces.Tie as tie
 
@@ -51,7 +51,7 @@ returns : tie.Need-returns
 returns c =
     let s = c.before.before.before.before.before in
     let a = s.args in
-    c.faces.ensures ∙ ap (λ (z : ℤ). not (isOpposite z (componentOf a.axis (points_of a.points.now) (ringAt a.entries.now a.starts.now a.q)))) (small-back w64 tt s.requires.1.1.1)
+    c.faces.ensures ∙ ap (λ (z : ℤ). not (is_opposite z (component_of a.axis (points_of a.points.now) (ring_at a.entries.now a.starts.now a.q)))) (small_back w64 tt s.requires.1.1.1)
 
 pub ring-faces-spec : {M : Type 1} → statement M
 ring-faces-spec =

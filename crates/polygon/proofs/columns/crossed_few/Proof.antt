@@ -1,7 +1,7 @@
 -- `polygon::columns::crossed_few` meets its contract. Two columns are filled, and the edges between them are those of the definition.
 use mathlib.Core.Path.{◌∙◌}
 use borrow.Author.Rules.{rules}
-use Rattle.polygon.proofs.Filled.{spread-is, crossed-is}
+use Rattle.polygon.proofs.Filled.{spread_is, crossed_is}
 use Rattle.polygon.proofs.columns.crossed_few.Statement.{statement}
 use Rattle.polygon.proofs.columns.crossed_few.Tie as tie
 
@@ -29,12 +29,12 @@ sub-first-crossed c = search rules
 first-crossed-requires : tie.Need-first-crossed-requires
 first-crossed-requires c κs =
     let h = c.before.before.before.before.before.before.before.before.before.requires.1.1 in
-    spread-is c.before.before.before.before.before.before.before.before.before.requires.0 h.1 h.0 c.before.before.before.before.before.before.fill.ensures c.before.before.before.fill2.ensures
+    spread_is c.before.before.before.before.before.before.before.before.before.requires.0 h.1 h.0 c.before.before.before.before.before.before.fill.ensures c.before.before.before.fill2.ensures
 
 returns : tie.Need-returns
 returns c =
     let h = c.before.before.before.before.before.before.before.before.before.before.requires.1.1 in
-    c.first-crossed.ensures ∙ crossed-is c.before.before.before.before.before.before.before.before.before.before.requires.0 h.1 h.0 c.before.before.before.before.before.before.before.fill.ensures c.before.before.before.before.fill2.ensures
+    c.first-crossed.ensures ∙ crossed_is c.before.before.before.before.before.before.before.before.before.before.requires.0 h.1 h.0 c.before.before.before.before.before.before.before.fill.ensures c.before.before.before.before.fill2.ensures
 
 pub crossed-few-spec : {M : Type 1} → statement M
 crossed-few-spec =

@@ -2,7 +2,7 @@
 use native.Mathlib.Omega.{arith}
 use mathlib.Core.Path.{◌∙◌}
 use borrow.Author.Rules.{rules}
-use Rattle.polygon.proofs.Filled.{spread-is, crossed-is}
+use Rattle.polygon.proofs.Filled.{spread_is, crossed_is}
 use Rattle.polygon.proofs.columns.crossed_many.Statement.{statement}
 use Rattle.polygon.proofs.columns.crossed_many.Tie as tie
 
@@ -30,12 +30,12 @@ sub-first-crossed c = search rules
 first-crossed-requires : tie.Need-first-crossed-requires
 first-crossed-requires c κs =
     let h = c.before.before.before.before.before.before.before.before.before.requires.1.1 in
-    (spread-is c.before.before.before.before.before.before.before.before.before.requires.0 h.1 (omega arith) c.before.before.before.before.before.before.fill.ensures c.before.before.before.fill2.ensures, (omega arith, omega arith))
+    (spread_is c.before.before.before.before.before.before.before.before.before.requires.0 h.1 (omega arith) c.before.before.before.before.before.before.fill.ensures c.before.before.before.fill2.ensures, (omega arith, omega arith))
 
 returns : tie.Need-returns
 returns c =
     let h = c.before.before.before.before.before.before.before.before.before.before.requires.1.1 in
-    c.first-crossed.ensures ∙ crossed-is c.before.before.before.before.before.before.before.before.before.before.requires.0 h.1 (omega arith) c.before.before.before.before.before.before.before.fill.ensures c.before.before.before.before.fill2.ensures
+    c.first-crossed.ensures ∙ crossed_is c.before.before.before.before.before.before.before.before.before.before.requires.0 h.1 (omega arith) c.before.before.before.before.before.before.before.fill.ensures c.before.before.before.before.fill2.ensures
 
 pub crossed-many-spec : {M : Type 1} → statement M
 crossed-many-spec =

@@ -4,8 +4,8 @@ use Prim.Native.Nat.{◌-◌}
 use mir.Syntax.{w64}
 use lib.ListN.{length}
 use borrow.Author.Rules.{rules}
-use Rattle.whole.specs.laws.Size.{call-is}
-use Rattle.polygon.proofs.Filled.{Filling, filling-start, filling-more, filling-end}
+use Rattle.whole.specs.laws.Size.{call_is}
+use Rattle.polygon.proofs.Filled.{Filling, filling_start, filling_more, filling_end}
 use Rattle.polygon.proofs.columns.fill.Statement.{statement}
 use Rattle.polygon.proofs.columns.fill.Tie as tie
 
@@ -16,7 +16,7 @@ abbrev decreases-loop : tie.decreases-loop
 decreases-loop points ring k room₀ i₀ room i = length ring - i
 
 loop-holds : tie.Need-loop-init invariant-loop decreases-loop
-loop-holds c = filling-start c.before.args.points.now c.before.args.ring.now c.before.args.k _
+loop-holds c = filling_start c.before.args.points.now c.before.args.ring.now c.before.args.k _
 
 mul-coordinate : tie.Need-overflow-mul-coordinate invariant-loop decreases-loop
 mul-coordinate c = search rules
@@ -41,13 +41,13 @@ loop-less c = search rules
 
 loop-again : tie.Need-loop-preserved invariant-loop decreases-loop
 loop-again c =
-    filling-more c.before.before.before.loop.invariant c.before.before.loop-test.true (omega (arith, c.before.before.before.loop.invariant.all, c.before.before.before.before.before.requires.1.1.1, c.before.before.loop-test.true)) _ (call-is w64 c.coordinate.type-inv c.coordinate.ensures)
+    filling_more c.before.before.before.loop.invariant c.before.before.loop-test.true (omega (arith, c.before.before.before.loop.invariant.all, c.before.before.before.before.before.requires.1.1.1, c.before.before.loop-test.true)) _ (call_is w64 c.coordinate.type-inv c.coordinate.ensures)
 
 same_length : tie.Need-same-length invariant-loop decreases-loop
 same_length c = c.before.loop.invariant.all
 
 returns : tie.Need-returns invariant-loop decreases-loop
-returns c = filling-end c.before.loop.invariant (omega (arith, c.before.loop.invariant.upto, c.loop-test.false))
+returns c = filling_end c.before.loop.invariant (omega (arith, c.before.loop.invariant.upto, c.loop-test.false))
 
 pub fill_spec : {M : Type 1} → statement M
 fill_spec =

@@ -6,9 +6,9 @@ use Rattle.space.specs.Space.{places}
 use Rattle.space.specs.held.Points.{points_of}
 use Rattle.space.specs.laws.Sizes.{near_same}
 use Rattle.normal.specs.laws.Sizes.{normal-near}
-use Rattle.plane.specs.Plane.{largestAxis}
-use Rattle.crossing.specs.Crossed.{crossedAt}
-use Rattle.polygon.specs.Ring.{edgesIn}
+use Rattle.plane.specs.Plane.{largest_axis_of}
+use Rattle.crossing.specs.Crossed.{crossed_at}
+use Rattle.polygon.specs.Ring.{edges_in}
 use Rattle.polygon.proofs.five.first_crossed.Statement.{statement}
 use Rattle.polygon.proofs.five.first_crossed.Tie as tie
 
@@ -24,7 +24,7 @@ first-crossed-requires c κs = search rules
 returns : tie.Need-returns
 returns c =
     let a = c.before.before.before.before.args in
-    c.first-crossed.ensures ∙ ap (λ (x : Axis). crossedAt (edgesIn x (places (points_of a.points.now) a.ring.now))) (c.before.largest-axis.ensures ∙ ap largestAxis c.before.before.normal.ensures)
+    c.first-crossed.ensures ∙ ap (λ (x : Axis). crossed_at (edges_in x (places (points_of a.points.now) a.ring.now))) (c.before.largest-axis.ensures ∙ ap largest_axis_of c.before.before.normal.ensures)
 
 pub first-crossed-spec : {M : Type 1} → statement M
 first-crossed-spec = tie.close (tie.spec normal-requires largest-axis-requires first-crossed-requires returns)

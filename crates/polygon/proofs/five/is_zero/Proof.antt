@@ -1,17 +1,17 @@
 -- `polygon::five::is_zero` meets its contract. A number is 0 exactly when its bits are.
 use mathlib.Core.Bool.{◌&&◌}
 use mathlib.Core.Path.{ap₂}
-use Rattle.whole.specs.laws.Size.{small-fits}
-use Rattle.normal.specs.Normal.{isZero}
+use Rattle.whole.specs.laws.Size.{small_fits}
+use Rattle.normal.specs.Normal.{is_zero_of}
 use Rattle.plane.specs.laws.Sizing.{zero_test}
 use Rattle.polygon.proofs.five.is_zero.Statement.{statement}
 use Rattle.polygon.proofs.five.is_zero.Tie as tie
 
 returns : tie.Need-returns
-unfolding isZero
+unfolding is_zero_of
 returns c =
     let h = c.before.before.before.requires in
-    ap₂ ◌&&◌ (ap₂ ◌&&◌ (zero_test (small-fits tt h.x)) (zero_test (small-fits tt h.y))) (zero_test (small-fits tt h.z))
+    ap₂ ◌&&◌ (ap₂ ◌&&◌ (zero_test (small_fits tt h.x)) (zero_test (small_fits tt h.y))) (zero_test (small_fits tt h.z))
 
 pub is-zero-spec : {M : Type 1} → statement M
 is-zero-spec = tie.close (tie.spec returns)

@@ -6,20 +6,20 @@ use Prim.Native.Nat.{◌≤◌}
 use lib.ListN.{length}
 use borrow.Author.Rules.{rules}
 use Rattle.space.specs.held.Points.{points_of}
-use Rattle.ring.specs.Entries.{isUnclosed}
-use Rattle.ring.specs.laws.Rings.{unclosed-is}
-use Rattle.polygon.proofs.Order.{found-short, found-unclosed}
+use Rattle.ring.specs.Entries.{is_unclosed}
+use Rattle.ring.specs.laws.Rings.{unclosed_is}
+use Rattle.polygon.proofs.Order.{found_short, found-unclosed}
 use Rattle.polygon.proofs.five.one_by_one.Statement.{statement}
 use Rattle.polygon.proofs.five.one_by_one.Tie as tie
 
 long : (c : tie.Else1) → 4 ≤ length c.before.before.args.ring.now
 long c = omega (arith, c.if1.false)
 
-closed : (c : tie.Else2) → isUnclosed c.before.before.before.before.args.ring.now ≡ false
-closed c = unclosed-is c.before.is-closed.ensures c.if2.false
+closed : (c : tie.Else2) → is_unclosed c.before.before.before.before.args.ring.now ≡ false
+closed c = unclosed_is c.before.is-closed.ensures c.if2.false
 
 returns : tie.Need-returns
-returns c = let s = c.before.before in found-short (points_of s.args.points.now) s.args.ring.now c.if1.true
+returns c = let s = c.before.before in found_short (points_of s.args.points.now) s.args.ring.now c.if1.true
 
 is-closed-requires : tie.Need-is-closed-requires
 is-closed-requires c κs = search rules
@@ -27,7 +27,7 @@ is-closed-requires c κs = search rules
 returns-2 : tie.Need-returns-2
 returns-2 c =
     let s = c.before.before.before.before in
-    found-unclosed (points_of s.args.points.now) s.args.ring.now (long c.before.before) (unclosed-is c.before.is-closed.ensures c.if2.true)
+    found-unclosed (points_of s.args.points.now) s.args.ring.now (long c.before.before) (unclosed_is c.before.is-closed.ensures c.if2.true)
 
 third-to-fifth-requires : tie.Need-third-to-fifth-requires
 third-to-fifth-requires c κs =

@@ -5,15 +5,15 @@ use mathlib.Core.List.{List}
 use borrow.Author.Rules.{rules}
 use Rattle.space.specs.laws.Sizes.{near_same}
 use Rattle.normal.specs.laws.Sizes.{normal-near}
-use Rattle.space.specs.held.Points.{points_of, Near, asPoint}
-use Rattle.ring.specs.Entries.{isRepeated}
-use Rattle.normal.specs.Normal.{normal, isZero}
-use Rattle.polygon.specs.Ring.{edgesIn}
-use Rattle.crossing.specs.Crossed.{isCrossed, crossedAt}
-use Rattle.plane.specs.Plane.{largestAxis}
+use Rattle.space.specs.held.Points.{points_of, Near, as_point}
+use Rattle.ring.specs.Entries.{is_repeated}
+use Rattle.normal.specs.Normal.{normal, is_zero_of}
+use Rattle.polygon.specs.Ring.{edges_in}
+use Rattle.crossing.specs.Crossed.{is_crossed, crossed_at}
+use Rattle.plane.specs.Plane.{largest_axis_of}
 use Rattle.space.specs.Space.{Point, places}
 use Rattle.space.specs.declared.Axis.{Axis}
-use Rattle.polygon.proofs.Order.{found-repeated, found-no-normal, found-crossed, found_none, single-is, uncrossed-is}
+use Rattle.polygon.proofs.Order.{found-repeated, found-no-normal, found-crossed, found_none, single_is, uncrossed_is}
 use Rattle.polygon.proofs.five.third_to_fifth.Statement.{statement}
 use Rattle.polygon.proofs.five.third_to_fifth.Tie as tie
 
@@ -24,26 +24,26 @@ table c = points_of c.args.points.now
 abbrev spots : tie.Start → List Point
 spots c = places (table c) c.args.ring.now
 
-near : (c : tie.Start) → Near 10160000000000 (asPoint c.args.n)
+near : (c : tie.Start) → Near 10160000000000 (as_point c.args.n)
 near c = near_same c.requires.1.1.1 (normal-near c.requires.0 c.requires.1.0)
 
 -- ---- what each check told
-single : (c : tie.Else1) → isRepeated c.before.before.before.args.ring.now ≡ false
-single c = let s = c.before.before.before in single-is (table s) s.args.ring.now c.before.first-repeated.ensures c.if1.false
+single : (c : tie.Else1) → is_repeated c.before.before.before.args.ring.now ≡ false
+single c = let s = c.before.before.before in single_is (table s) s.args.ring.now c.before.first-repeated.ensures c.if1.false
 
-zero_is : (c : tie.After-is-zero) → isZero (normal (spots c.before.before.before.before)) ≡ c.is_zero.result
-zero_is c = ap isZero (sym c.before.before.before.before.requires.1.1.1) ∙ sym c.is_zero.ensures
+zero_is : (c : tie.After-is-zero) → is_zero_of (normal (spots c.before.before.before.before)) ≡ c.is_zero.result
+zero_is c = ap is_zero_of (sym c.before.before.before.before.requires.1.1.1) ∙ sym c.is_zero.ensures
 
-some : (c : tie.Else2) → isZero (normal (spots c.before.before.before.before.before)) ≡ false
+some : (c : tie.Else2) → is_zero_of (normal (spots c.before.before.before.before.before)) ≡ false
 some c = zero_is c.before ∙ c.if2.false
 
-crossed-is : (c : tie.After-first-crossed) → let s = spots c.before.before.before.before.before.before.before in c.first-crossed.result ≡ crossedAt (edgesIn (largestAxis (normal s)) s)
-crossed-is c =
+crossed_is : (c : tie.After-first-crossed) → let s = spots c.before.before.before.before.before.before.before in c.first-crossed.result ≡ crossed_at (edges_in (largest_axis_of (normal s)) s)
+crossed_is c =
     let s = c.before.before.before.before.before.before.before in
-    c.first-crossed.ensures ∙ ap (λ (x : Axis). crossedAt (edgesIn x (spots s))) (c.before.largest-axis.ensures ∙ ap largestAxis s.requires.1.1.1)
+    c.first-crossed.ensures ∙ ap (λ (x : Axis). crossed_at (edges_in x (spots s))) (c.before.largest-axis.ensures ∙ ap largest_axis_of s.requires.1.1.1)
 
-uncrossed : (c : tie.Else3) → let s = spots c.before.before.before.before.before.before.before.before in isCrossed (edgesIn (largestAxis (normal s)) s) ≡ false
-uncrossed c = let s = c.before.before.before.before.before.before.before.before in uncrossed-is (table s) s.args.ring.now (crossed-is c.before) c.if3.false
+uncrossed : (c : tie.Else3) → let s = spots c.before.before.before.before.before.before.before.before in is_crossed (edges_in (largest_axis_of (normal s)) s) ≡ false
+uncrossed c = let s = c.before.before.before.before.before.before.before.before in uncrossed_is (table s) s.args.ring.now (crossed_is c.before) c.if3.false
 
 -- ---- the needs
 sub-edges : tie.Need-overflow-sub-edges
@@ -83,7 +83,7 @@ returns-3 : tie.Need-returns-3
 returns-3 c =
     let s = c.before.before.before.before.before.before.before.before.before in
     let h = s.requires.1.1.0 in
-    c.kept-at2.ensures ∙ found-crossed (table s) s.args.ring.now h.0 h.1 (single c.before.before.before.before.before.before) (some c.before.before.before.before) (crossed-is c.before.before) c.before.if3.true
+    c.kept-at2.ensures ∙ found-crossed (table s) s.args.ring.now h.0 h.1 (single c.before.before.before.before.before.before) (some c.before.before.before.before) (crossed_is c.before.before) c.before.if3.true
 
 returns-4 : tie.Need-returns-4
 returns-4 c =
