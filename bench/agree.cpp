@@ -40,10 +40,8 @@ std::vector<std::string> lines_in(const std::string &text) {
 
 // What an answer says, in few words.
 std::string kind_of(const std::string &frame, const std::string &answer) {
-    if (answer == "00" && frame.substr(0, 2) == "08") return "inner ring";
     if (answer == "00") return "plain";
-    if (answer.size() == 2)
-        return "refusal " + answer + (frame.substr(0, 2) == "0C" ? " of an edge question" : frame.substr(0, 2) == "08" ? " of an inner ring" : "");
+    if (answer.size() == 2) return "refusal " + answer + (frame.substr(0, 2) == "0C" ? " of an edge question" : "");
     if (frame[1] == '7') return "question, finding " + answer.substr(2, 2);
     if (frame[1] != 'C') return "report " + answer.substr(2, 2);
     const std::string users = answer.substr(2, 4), first = answer.substr(6, 4), second = answer.substr(10);

@@ -1,4 +1,4 @@
-// Times the checker beside the baselines on ten buildings, on buildings with inner rings, on rings that fail, on loads numbered at random and on edge questions, in one
+// Times the checker beside the baselines on ten buildings, on rings that fail, on loads numbered at random and on edge questions, in one
 // run, whole and by stages, and measures the stack. No time is printed unless all agree on every answer byte of every stream that is timed. Usage:
 // bench NAME [samples], NAME of what is linked.
 // The AVX-512 baseline takes part where it is built in (WITH_AVX512): it is timed on loads alone, since it keeps nothing.
@@ -52,7 +52,7 @@ struct Case {
 
 Case make_case(const streams::Model &m, const std::string &stream) {
     std::size_t entries = 0;
-    for (const auto &ring : streams::all_rings(m)) entries += ring.size();
+    for (const auto &ring : m.rings) entries += ring.size();
     return {m.name, stream, m.points.size(), m.rings.size(), entries};
 }
 
@@ -71,9 +71,10 @@ struct Stages {
 };
 
 Stages make_stages(const streams::Model &m) {
-    std::string points = streams::begin(m.tolerance);
+    std::string points = streams::begin(m.tolerance), polygons;
     for (const auto &p : m.points) points += streams::point(p);
-    return {m.name, {points, points + streams::polygons(m), streams::load(m), streams::with_corrections(m)}};
+    for (const auto &ring : m.rings) polygons += streams::polygon(ring);
+    return {m.name, {points, points + polygons, streams::load(m), streams::with_corrections(m)}};
 }
 
 std::size_t lines_of(const std::string &s) { return framecheck_lines(reinterpret_cast<const std::uint8_t *>(s.data()), s.size()); }
@@ -296,7 +297,6 @@ void machine() {
 
 struct Buildings {
     std::vector<Case> loads = make_loads(streams::ten_buildings()), corrected, late, turned, asked;
-    std::vector<Case> courts = make_loads(streams::buildings_with_courts()), courts_corrected;
     std::vector<Case> early = make_loads(streams::rings_that_fail_early()), numbered = make_loads(streams::numbered_at_random());
     std::vector<Case> balls, roofs, towers, thin;
     std::vector<Stages> by_stage;
@@ -307,10 +307,6 @@ struct Buildings {
         for (const auto &m : streams::ten_buildings()) {
             by_stage.push_back(make_stages(m));
             corrected.push_back(make_case(m, streams::with_corrections(m)));
-        }
-        for (const auto &m : streams::buildings_with_courts()) {
-            by_stage.push_back(make_stages(m));
-            courts_corrected.push_back(make_case(m, streams::with_corrections(m)));
         }
         for (int check : {3, 5, 6}) {
             const auto m = streams::late_rings("0" + std::to_string(check) + " found late", check);
@@ -333,7 +329,7 @@ struct Buildings {
 
     std::vector<Case> every() const {
         std::vector<Case> all;
-        for (const auto *some : {&loads, &corrected, &courts, &courts_corrected, &late, &turned, &early, &asked, &numbered, &balls, &roofs, &towers, &thin})
+        for (const auto *some : {&loads, &corrected, &late, &turned, &early, &asked, &numbered, &balls, &roofs, &towers, &thin})
             all.insert(all.end(), some->begin(), some->end());
         return all;
     }
@@ -352,8 +348,6 @@ int main(int argc, char **argv) {
     std::printf("all agree on the %zu streams; medians of %d samples at most, whole calls, processor time\n", every.size(), samples);
     table("loads", linked, b.loads, samples, true);
     table("loads with 50 moves, 50 turns and 200 questions", linked, b.corrected, samples, false);
-    table("loads with inner rings (nine rings of 56: no solid)", linked, b.courts, samples, false);
-    table("the same with 50 moves, 50 turns and 200 questions", linked, b.courts_corrected, samples, false);
     table("loads of eight rings of 127 that fail at a late position", linked, b.late, samples, true);
     table("the same with 100 turns and 100 questions", linked, b.turned, samples, false);
     table("loads whose rings fail 01 to 03 early", linked, b.early, samples, false);

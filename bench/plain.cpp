@@ -17,7 +17,7 @@
 namespace {
 
 constexpr std::size_t most_bytes = 65535, most_lines = 1024, room_a_line = 33;
-constexpr std::size_t most_points = 512, most_polygons = 256, most_inner = 8, most_ring = 128, most_entries = 1024;
+constexpr std::size_t most_points = 512, most_polygons = 256, most_ring = 128, most_entries = 1024;
 constexpr std::int64_t most_coordinate = 100000, most_tolerance = 1000;
 
 struct Point {
@@ -32,7 +32,7 @@ Point cross(Point p, Point q) { return {p.y * q.z - p.z * q.y, p.z * q.x - p.x *
 using Ring = std::vector<std::uint16_t>;
 
 struct Polygon {
-    std::vector<Ring> rings; // the outer one, then the inner ones
+    Ring ring;
     std::uint32_t stamp = 0;
 };
 
@@ -70,8 +70,7 @@ std::optional<Frame> decode(std::string_view line) {
     switch (kind) {
     case 1: fits = size == 6; break;
     case 2: fits = size == 26; break;
-    case 3:
-    case 8: fits = (size - 2) % 4 == 0 && (size - 2) / 4 <= most_ring; break;
+    case 3: fits = (size - 2) % 4 == 0 && (size - 2) / 4 <= most_ring; break;
     case 4: fits = size == 2; break;
     case 5: fits = size == 38; break;
     case 6: fits = size == 14; break;
@@ -156,46 +155,6 @@ bool is_uneven(std::int64_t off, Point normal, std::int64_t tolerance) {
     return square(off) > square(tolerance) * (square(normal.x) + square(normal.y) + square(normal.z));
 }
 
-// The component that `flatten` drops.
-std::int64_t dropped(Point p, Point normal) {
-    const auto x = std::abs(normal.x), y = std::abs(normal.y), z = std::abs(normal.z);
-    if (x >= y && x >= z) return p.x;
-    return y >= z ? p.y : p.z;
-}
-
-// ---- several rings ------------------------------------------------------------------------------------------------
-
-using Outline = std::vector<Flat>; // closed
-
-bool share_a_point(const Outline &one, const Outline &other) {
-    for (std::size_t i = 0; i + 1 < one.size(); i++)
-        for (std::size_t j = 0; j + 1 < other.size(); j++)
-            if (meet(one[i], one[i + 1], other[j], other[j + 1])) return true;
-    return false;
-}
-
-// Whether a place off the outline is inside it: the edges that pass to its right from below to above or back are counted, a corner at
-// its height being above.
-bool inside(Flat place, const Outline &outline) {
-    bool odd = false;
-    for (std::size_t i = 0; i + 1 < outline.size(); i++) {
-        const Flat a = outline[i], b = outline[i + 1];
-        if ((a.v >= place.v) == (b.v >= place.v)) continue;
-        if ((turn(a, b, place) > 0) == (b.v > a.v)) odd = !odd;
-    }
-    return odd;
-}
-
-// Whether an inner ring is outside the outer one or inside another. They share no point, so that any one corner tells for its ring.
-bool is_misplaced(const std::vector<Outline> &rings) {
-    for (std::size_t i = 1; i < rings.size(); i++) {
-        if (!inside(rings[i][0], rings[0])) return true;
-        for (std::size_t j = 1; j < rings.size(); j++)
-            if (j != i && inside(rings[i][0], rings[j])) return true;
-    }
-    return false;
-}
-
 std::int64_t determinant(const std::array<Point, 3> &row) { return dot(row[0], cross(row[1], row[2])); }
 
 // ---- the building -------------------------------------------------------------------------------------------------
@@ -214,7 +173,7 @@ struct Verdict {
 
 struct Finding {
     int check = 0;
-    std::size_t position = 0; // of 03 and 06 an entry, of 05 an edge, those of the rings before counted too; else 0
+    std::size_t position = 0; // of 03 and 06 an entry, of 05 an edge, else 0
 };
 
 class Building {
@@ -224,9 +183,7 @@ class Building {
     std::vector<Polygon> polygons;
     std::size_t entries = 0;
 
-    // 01 to 05 of one ring, and its normal.
-    Finding ring_finding(const Ring &ring, Point &normal) const {
-        normal = {0, 0, 0};
+    Finding finding(const Ring &ring) const {
         if (ring.size() < 4) return {1, 0};
         if (ring.back() != ring.front()) return {2, 0};
         std::vector<bool> seen(points.size(), false);
@@ -235,46 +192,25 @@ class Building {
             seen[ring[i]] = true;
         }
         const Point first = points[ring[0]];
+        Point normal{0, 0, 0};
         for (std::size_t i = 0; i + 1 < ring.size(); i++) {
             const Point c = cross(points[ring[i]] - first, points[ring[i + 1]] - first);
             normal = {normal.x + c.x, normal.y + c.y, normal.z + c.z};
         }
         if (normal == Point{0, 0, 0}) return {4, 0};
-        if (const auto edge = first_meeting(flattened(ring, normal))) return {5, *edge};
+        std::vector<Flat> corner;
+        corner.reserve(ring.size());
+        for (auto entry : ring) corner.push_back(flatten(points[entry], normal));
+        if (const auto edge = first_meeting(corner)) return {5, *edge};
+        for (std::size_t i = 0; i < ring.size(); i++)
+            if (is_uneven(dot(normal, points[ring[i]] - first), normal, tolerance)) return {6, i};
         return {};
     }
 
-    Finding finding(const Polygon &polygon) const {
-        std::vector<Point> normals(polygon.rings.size());
-        std::size_t before = 0;
-        for (std::size_t r = 0; r < polygon.rings.size(); r++) {
-            const Finding found = ring_finding(polygon.rings[r], normals[r]);
-            if (found.check == 3 || found.check == 5) return {found.check, before + found.position};
-            if (found.check != 0) return found;
-            before += polygon.rings[r].size();
-        }
-        const Point normal = normals[0], first = points[polygon.rings[0][0]];
-        std::size_t entry = 0;
-        for (const Ring &ring : polygon.rings)
-            for (auto number : ring)
-                if (is_uneven(dot(normal, points[number] - first), normal, tolerance)) return {6, entry};
-                else entry++;
-        if (polygon.rings.size() == 1) return {};
-        std::vector<Outline> outlines;
-        for (const Ring &ring : polygon.rings) outlines.push_back(flattened(ring, normal));
-        for (std::size_t i = 0; i < outlines.size(); i++)
-            for (std::size_t j = i + 1; j < outlines.size(); j++)
-                if (share_a_point(outlines[i], outlines[j])) return {0x0E, 0};
-        for (std::size_t r = 1; r < normals.size(); r++)
-            if (sign(dropped(normals[r], normal)) != -sign(dropped(normal, normal))) return {0x0F, 0};
-        return {is_misplaced(outlines) ? 0x0F : 0, 0};
-    }
-
-    std::int64_t part(const Polygon &polygon) const {
+    std::int64_t part(const Ring &ring) const {
         std::int64_t sum = 0;
-        for (const Ring &ring : polygon.rings)
-            for (std::size_t i = 0; i + 1 < ring.size(); i++)
-                sum += determinant({points[ring[0]], points[ring[i]], points[ring[i + 1]]});
+        for (std::size_t i = 0; i + 1 < ring.size(); i++)
+            sum += determinant({points[ring[0]], points[ring[i]], points[ring[i + 1]]});
         return sum;
     }
 
@@ -283,9 +219,9 @@ class Building {
         std::int64_t six_volume = 0;
         Verdict verdict;
         for (std::size_t p = 0; p < polygons.size(); p++) {
-            const Finding found = finding(polygons[p]);
+            const Finding found = finding(polygons[p].ring);
             if (found.check != 0 && faulty++ == 0) verdict = {found.check, p, found.position};
-            six_volume += part(polygons[p]);
+            six_volume += part(polygons[p].ring);
         }
         if (faulty == 0) verdict = shape();
         if (verdict.check == 0 && six_volume <= 0) verdict = {0x0D, 0, 0};
@@ -294,43 +230,35 @@ class Building {
     }
 
     std::string question(const Polygon &polygon) const {
-        const Finding found = finding(polygon);
+        const Finding found = finding(polygon.ring);
         return "00" + hex(static_cast<std::uint64_t>(found.check), 2) + hex(found.position, 4) + hex(polygon.stamp, 8) +
-               hex(static_cast<std::uint64_t>(part(polygon)), 16);
+               hex(static_cast<std::uint64_t>(part(polygon.ring)), 16);
     }
 
     // Every step of every ring is looked at; polygons come in their order, so that the first two met are the lowest.
     std::string users(Edge edge) const {
         std::vector<std::size_t> met;
         for (std::size_t p = 0; p < polygons.size(); p++) {
-            for (const Ring &ring : polygons[p].rings)
-                for (std::size_t i = 0; i + 1 < ring.size(); i++)
-                    if (Edge(std::minmax(ring[i], ring[i + 1])) == edge) met.push_back(p);
+            const Ring &ring = polygons[p].ring;
+            for (std::size_t i = 0; i + 1 < ring.size(); i++)
+                if (Edge(std::minmax(ring[i], ring[i + 1])) == edge) met.push_back(p);
         }
         const auto user = [&](std::size_t k) { return hex(k < met.size() ? met[k] : 0xFFFF, 4); };
         return "00" + hex(met.size(), 4) + user(0) + user(1);
     }
 
   private:
-    Outline flattened(const Ring &ring, Point normal) const {
-        Outline outline;
-        outline.reserve(ring.size());
-        for (auto entry : ring) outline.push_back(flatten(points[entry], normal));
-        return outline;
-    }
-
     // Checks 07 to 0C, tried where no polygon has a finding.
     Verdict shape() const {
         if (polygons.size() < 4) return {7, polygons.size(), 0};
         std::map<Edge, Uses> edges;
         for (std::size_t p = 0; p < polygons.size(); p++) {
-            for (const Ring &ring : polygons[p].rings) {
-                for (std::size_t i = 0; i + 1 < ring.size(); i++) {
-                    Uses &uses = edges[std::minmax(ring[i], ring[i + 1])];
-                    if (uses.times < 2) uses.polygon[static_cast<std::size_t>(uses.times)] = p;
-                    uses.times++;
-                    uses.forward += ring[i] < ring[i + 1];
-                }
+            const Ring &ring = polygons[p].ring;
+            for (std::size_t i = 0; i + 1 < ring.size(); i++) {
+                Uses &uses = edges[std::minmax(ring[i], ring[i + 1])];
+                if (uses.times < 2) uses.polygon[static_cast<std::size_t>(uses.times)] = p;
+                uses.times++;
+                uses.forward += ring[i] < ring[i + 1];
             }
         }
         for (const auto &[edge, uses] : edges)
@@ -399,15 +327,12 @@ class Service {
     std::string step(std::string_view line) {
         const auto frame = decode(line);
         if (!frame) return "01";
-        const bool of_load = (frame->kind >= 2 && frame->kind <= 4) || frame->kind == 8;
-        if (of_load && state != State::loading) return "02";
-        if (!of_load && frame->kind != 1 && state != State::held) return "02";
-        if (frame->kind == 8 && building.polygons.empty()) return "02";
+        if (frame->kind >= 2 && frame->kind <= 4 && state != State::loading) return "02";
+        if (frame->kind >= 5 && state != State::held) return "02";
         switch (frame->kind) {
         case 1: return begin(frame->fields);
         case 2: return point(frame->fields);
-        case 3:
-        case 8: return ring(frame->fields, frame->kind == 8);
+        case 3: return polygon(frame->fields);
         case 4: return end();
         case 5: return move(frame->fields);
         case 6: return turn_over(frame->fields);
@@ -446,18 +371,15 @@ class Service {
         return "00";
     }
 
-    // A polygon's outer ring, or an inner one of the last polygon.
-    std::string ring(std::string_view fields, bool inner) {
-        Ring entries;
+    std::string polygon(std::string_view fields) {
+        Ring ring;
         for (std::size_t i = 0; i < fields.size(); i += 4)
-            entries.push_back(static_cast<std::uint16_t>(number(fields.substr(i, 4))));
-        for (auto entry : entries)
+            ring.push_back(static_cast<std::uint16_t>(number(fields.substr(i, 4))));
+        for (auto entry : ring)
             if (entry >= building.points.size()) return "05";
-        if (inner ? building.polygons.back().rings.size() > most_inner : building.polygons.size() == most_polygons) return "04";
-        if (building.entries + entries.size() > most_entries) return "04";
-        building.entries += entries.size();
-        if (inner) building.polygons.back().rings.push_back(entries);
-        else building.polygons.push_back({{entries}, 0});
+        if (building.polygons.size() == most_polygons || building.entries + ring.size() > most_entries) return "04";
+        building.entries += ring.size();
+        building.polygons.push_back({ring, 0});
         return "00";
     }
 
@@ -477,8 +399,7 @@ class Service {
         if (taken(where, which)) return "06";
         building.points[which] = where;
         for (auto &polygon : building.polygons)
-            for (const Ring &entries : polygon.rings)
-                if (std::find(entries.begin(), entries.end(), which) != entries.end()) polygon.stamp = n;
+            if (std::find(polygon.ring.begin(), polygon.ring.end(), which) != polygon.ring.end()) polygon.stamp = n;
         last = n;
         return building.report();
     }
@@ -489,7 +410,7 @@ class Service {
         if (n <= last) return "07";
         if (which >= building.polygons.size()) return "05";
         auto &polygon = building.polygons[which];
-        for (Ring &entries : polygon.rings) std::reverse(entries.begin(), entries.end());
+        std::reverse(polygon.ring.begin(), polygon.ring.end());
         polygon.stamp = n;
         last = n;
         return building.report();

@@ -1,5 +1,5 @@
-// Buildings and streams for the benchmark, the tests and the fuzz seeds: the ten buildings that are timed, some with inner rings, some
-// that are numbered at random, some with rings that fail, and a generator of random and damaged streams from a number.
+// Buildings and streams for the benchmark, the tests and the fuzz seeds: the ten buildings that are timed, some that are numbered at
+// random, some with rings that fail, and a generator of random and damaged streams from a number.
 #ifndef FRAMECHECK_STREAMS_HPP
 #define FRAMECHECK_STREAMS_HPP
 
@@ -23,8 +23,7 @@ struct Model {
     std::string name;
     int tolerance = 0;
     std::vector<Place> points;
-    std::vector<Ring> rings; // closed, as sent: each polygon's outer ring
-    std::map<std::size_t, std::vector<Ring>> inner = {}; // a polygon's inner rings, where it has some
+    std::vector<Ring> rings; // closed, as sent
 };
 
 // ---- frames -------------------------------------------------------------------------------------------------------
@@ -51,12 +50,6 @@ inline std::string polygon(const Ring &ring) {
     return text + "\n";
 }
 
-inline std::string inner_ring(const Ring &ring) {
-    std::string text = polygon(ring);
-    text[1] = '8';
-    return text;
-}
-
 inline std::string end_of_load() { return "04\n"; }
 
 inline std::string move(std::uint32_t number, int which, Place p) {
@@ -73,41 +66,18 @@ inline std::string across(int a, int b) {
     return "0C" + hex(static_cast<std::uint64_t>(a), 4) + hex(static_cast<std::uint64_t>(b), 4) + "\n";
 }
 
-// Every polygon, its inner rings after its outer one.
-inline std::string polygons(const Model &m) {
-    std::string text;
-    for (std::size_t p = 0; p < m.rings.size(); p++) {
-        text += polygon(m.rings[p]);
-        if (const auto found = m.inner.find(p); found != m.inner.end())
-            for (const auto &ring : found->second) text += inner_ring(ring);
-    }
-    return text;
-}
-
 inline std::string load(const Model &m) {
     std::string text = begin(m.tolerance);
     for (const auto &p : m.points) text += point(p);
-    return text + polygons(m) + end_of_load();
-}
-
-// Every ring, inner ones too.
-template <class Each> void each_ring(Model &m, Each each) {
-    for (auto &ring : m.rings) each(ring);
-    for (auto &[polygon, rings] : m.inner)
-        for (auto &ring : rings) each(ring);
-}
-
-inline std::vector<Ring> all_rings(const Model &m) {
-    std::vector<Ring> all = m.rings;
-    for (const auto &[polygon, rings] : m.inner) all.insert(all.end(), rings.begin(), rings.end());
-    return all;
+    for (const auto &r : m.rings) text += polygon(r);
+    return text + end_of_load();
 }
 
 // ---- buildings ----------------------------------------------------------------------------------------------------
 
 inline std::int64_t six_volume(const Model &m) {
     std::int64_t sum = 0;
-    for (const auto &ring : all_rings(m)) {
+    for (const auto &ring : m.rings) {
         for (std::size_t i = 0; i + 1 < ring.size(); i++) {
             const auto &f = m.points[static_cast<std::size_t>(ring[0])];
             const auto &p = m.points[static_cast<std::size_t>(ring[i])];
@@ -120,7 +90,8 @@ inline std::int64_t six_volume(const Model &m) {
 }
 
 inline Model face_out(Model m) {
-    if (six_volume(m) < 0) each_ring(m, [](Ring &ring) { std::reverse(ring.begin(), ring.end()); });
+    if (six_volume(m) < 0)
+        for (auto &ring : m.rings) std::reverse(ring.begin(), ring.end());
     return m;
 }
 
@@ -324,67 +295,6 @@ inline Model steep_roofs(std::string name, int corners, int radius, int off) {
     return m;
 }
 
-// A prism with courtyards: floor and roof have an inner ring for each, which has walls of its own. All outlines run one way round.
-inline Model courtyards(std::string name, const std::vector<std::pair<int, int>> &outline,
-                        const std::vector<std::vector<std::pair<int, int>>> &courts, int height) {
-    Model m = prism(std::move(name), outline, height);
-    // The walls of a court look inward: those of a prism of its own, turned; and so do its rings in floor and roof.
-    for (const auto &court : courts) {
-        const Model inside = prism("", court, height);
-        const int before = static_cast<int>(m.points.size());
-        m.points.insert(m.points.end(), inside.points.begin(), inside.points.end());
-        for (std::size_t p = 0; p < inside.rings.size(); p++) {
-            Ring ring = inside.rings[p];
-            for (int &entry : ring) entry += before;
-            std::reverse(ring.begin(), ring.end());
-            if (p < 2) m.inner[p].push_back(ring);
-            else m.rings.push_back(ring);
-        }
-    }
-    return m;
-}
-
-inline std::vector<std::pair<int, int>> shifted(std::vector<std::pair<int, int>> outline, int x, int y) {
-    for (auto &corner : outline) corner = {corner.first + x, corner.second + y};
-    return outline;
-}
-
-// The house of 4 by 4 by 3 m with a courtyard of 2 by 2; eight courtyards in two rows; a round court of 50 corners in a round house of
-// 50; and, from both sides, a star of 55 corners with eight in it, which is no solid but the most work that 0E can ask for.
-inline std::vector<Model> buildings_with_courts() {
-    const auto square = [](int x, int y, int side) {
-        return std::vector<std::pair<int, int>>{{x, y}, {x + side, y}, {x + side, y + side}, {x, y + side}};
-    };
-    std::vector<std::vector<std::pair<int, int>>> eight, stars;
-    for (int k = 0; k < 8; k++) {
-        eight.push_back(square(2000 + k % 4 * 6000, 2000 + k / 4 * 6000, 3000));
-        const double angle = 2.0 * 3.14159265358979323846 * k / 8;
-        stars.push_back(shifted(star(55, 9000, 15000), static_cast<int>(std::lround(45000 * std::cos(angle))),
-                                static_cast<int>(std::lround(45000 * std::sin(angle)))));
-    }
-    Model nine{"nine rings of 56", 10, {}, {}};
-    std::vector<Ring> rings;
-    stars.insert(stars.begin(), star(55, 70000, 90000));
-    for (const auto &outline : stars) {
-        Ring ring;
-        for (const auto &[x, y] : outline) {
-            ring.push_back(static_cast<int>(nine.points.size()));
-            nine.points.push_back({x, y, 0});
-        }
-        ring.push_back(ring[0]);
-        if (!rings.empty()) std::reverse(ring.begin(), ring.end());
-        rings.push_back(ring);
-    }
-    for (std::size_t side = 0; side < 2; side++) {
-        nine.rings.push_back(rings[0]);
-        nine.inner[side].assign(rings.begin() + 1, rings.end());
-        for (auto &ring : rings) std::reverse(ring.begin(), ring.end());
-    }
-    return {courtyards("courtyard house", square(0, 0, 4000), {square(1000, 1000, 2000)}, 3000),
-            courtyards("eight courtyards", {{0, 0}, {25000, 0}, {25000, 13000}, {0, 13000}}, eight, 9000),
-            courtyards("round courtyard", star(50, 30000, 30000), {star(50, 12000, 12000)}, 9000), nine};
-}
-
 inline std::vector<Model> ten_buildings() {
     return {tetrahedron(),
             box(),
@@ -484,24 +394,11 @@ inline Model renumbered(Model m, Random &r) {
         number[order[k]] = static_cast<int>(k);
         points.push_back(m.points[order[k]]);
     }
-    each_ring(m, [&](Ring &ring) {
+    for (auto &ring : m.rings)
         for (int &entry : ring)
             if (static_cast<std::size_t>(entry) < number.size()) entry = number[static_cast<std::size_t>(entry)];
-    });
     m.points = std::move(points);
-    if (m.inner.empty()) {
-        shuffle(m.rings, r);
-        return m;
-    }
-    std::vector<std::size_t> polygons(m.rings.size());
-    for (std::size_t k = 0; k < polygons.size(); k++) polygons[k] = k;
-    shuffle(polygons, r);
-    const Model before = m;
-    m.inner.clear();
-    for (std::size_t k = 0; k < polygons.size(); k++) {
-        m.rings[k] = before.rings[polygons[k]];
-        if (const auto found = before.inner.find(polygons[k]); found != before.inner.end()) m.inner[k] = found->second;
-    }
+    shuffle(m.rings, r);
     return m;
 }
 
@@ -693,39 +590,9 @@ inline Model brim(Random &r) {
     return m;
 }
 
-// A house with courts in a row, all of them as they should be, or moved here and there so that they touch, cross, are outside or in one
-// another; some the wrong way round; now and then more than eight, or one that is short, empty or open.
-inline Model courts(Random &r) {
-    const int count = r.one_in(12) ? r.from_to(7, 10) : r.from_to(1, 4), side = 600;
-    std::vector<std::vector<std::pair<int, int>>> outlines;
-    for (int k = 0; k < count; k++) {
-        auto outline = r.one_in(3) ? star(2 * r.from_to(2, 6), 100, 200) : std::vector<std::pair<int, int>>{{-200, -200}, {200, -200}, {200, 200}, {-200, 200}};
-        if (r.one_in(12)) outline = star(4, 50, 50);
-        if (r.one_in(12)) outline = star(6, 500, 700);
-        const int at = r.one_in(8) ? r.from_to(-1, count) : k, off = r.one_in(6) ? 100 * r.from_to(-4, 4) : 0;
-        outlines.push_back(shifted(outline, side * at + 300 + off, 300 + (r.one_in(6) ? 100 * r.from_to(-4, 4) : 0)));
-    }
-    Model m = courtyards("courts", {{0, 0}, {side * count, 0}, {side * count, side}, {0, side}}, outlines, r.from_to(1, 900));
-    if (r.one_in(3)) { // the axes in another order
-        for (auto &p : m.points) std::rotate(p.begin(), p.begin() + 1, p.end());
-    }
-    for (auto &[polygon, rings] : m.inner) {
-        for (auto &ring : rings) {
-            if (r.one_in(20)) std::reverse(ring.begin(), ring.end());
-            if (r.one_in(30)) ring.resize(static_cast<std::size_t>(r.below(static_cast<int>(ring.size()))));
-            if (!ring.empty() && r.one_in(30)) ring[static_cast<std::size_t>(r.below(static_cast<int>(ring.size())))] = r.below(static_cast<int>(m.points.size()));
-        }
-        if (r.one_in(12)) std::reverse(rings.begin(), rings.end());
-    }
-    return m;
-}
-
 inline Model any_model(Random &r) {
     if (r.one_in(25)) return brim(r);
-    switch (r.below(17)) {
-    case 14:
-    case 15:
-    case 16: return r.one_in(30) ? buildings_with_courts()[static_cast<std::size_t>(r.below(4))] : courts(r);
+    switch (r.below(14)) {
     case 13: {
         const int rings = r.from_to(1, 4), around = r.from_to(3, 8), storeys = r.from_to(1, 20);
         return beside("two solids", ball("", rings, around), tower("", storeys));
@@ -768,19 +635,11 @@ inline void there_and_back(Ring &ring, Random &r) {
 // Small faults in the tables themselves.
 inline void disturb(Model &m, Random &r) {
     const int times = r.one_in(2) ? 0 : r.from_to(1, 3);
-    if (r.one_in(25) && !m.rings.empty()) { // a polygon gets an inner ring of another's numbers
-        const auto from = static_cast<std::size_t>(r.below(static_cast<int>(m.rings.size())));
-        m.inner[static_cast<std::size_t>(r.below(static_cast<int>(m.rings.size())))].push_back(m.rings[from]);
-    }
     for (int t = 0; t < times && !m.rings.empty(); t++) {
         auto &ring = m.rings[static_cast<std::size_t>(r.below(static_cast<int>(m.rings.size())))];
         switch (r.below(9)) {
         case 0: std::reverse(ring.begin(), ring.end()); break;
-        case 1:
-            std::swap(ring, m.rings.back());
-            m.rings.pop_back();
-            m.inner.erase(m.rings.size());
-            break;
+        case 1: std::swap(ring, m.rings.back()); m.rings.pop_back(); break;
         case 2: m.rings.push_back(ring); break;
         case 3: if (!ring.empty()) ring.pop_back(); break;
         case 4: if (!ring.empty()) ring[static_cast<std::size_t>(r.below(static_cast<int>(ring.size())))] = r.below(static_cast<int>(m.points.size()) + 1); break;
@@ -820,8 +679,8 @@ inline std::pair<int, int> any_edge(const Model &m, Random &r) {
     const int points = static_cast<int>(m.points.size());
     int a = r.below(points + (r.one_in(15) ? 1 : 0)), b = r.one_in(10) ? a : r.below(points + (r.one_in(15) ? 1 : 0));
     if (r.one_in(60)) a = r.one_in(2) ? 0xFFFF : 512;
-    if (const auto rings = all_rings(m); !rings.empty() && !r.one_in(4)) {
-        const auto &ring = rings[static_cast<std::size_t>(r.below(static_cast<int>(rings.size())))];
+    if (!m.rings.empty() && !r.one_in(4)) {
+        const auto &ring = m.rings[static_cast<std::size_t>(r.below(static_cast<int>(m.rings.size())))];
         const auto at = static_cast<std::size_t>(r.below(static_cast<int>(ring.size()) - 1));
         if (ring.size() >= 2) a = ring[at], b = ring[at + 1];
     }
@@ -895,17 +754,12 @@ inline std::string any_stream(std::uint64_t seed) {
         if (r.one_in(m.name == "brim" ? 2 : 8)) { // frames at the end of a load that two rules may refuse
             now.resize(now.size() - 3);
             for (int extra = r.from_to(1, 4); extra > 0; extra--)
-                now += r.one_in(2)   ? point(r.one_in(3) ? Place{0, 100001, 0} : any_place(m, r))
-                       : r.one_in(3) ? inner_ring({r.one_in(2) ? 600 : 0, 1, 2, 0})
-                                     : polygon({r.one_in(2) ? 600 : 0, 1, 2, 0});
+                now += r.one_in(2) ? point(r.one_in(3) ? Place{0, 100001, 0} : any_place(m, r)) : polygon({r.one_in(2) ? 600 : 0, 1, 2, 0});
             now += end_of_load();
         }
         if (r.one_in(12)) now = now.substr(0, now.size() - 3); // no end of load
         if (r.one_in(10)) ask_early(now, m, r);
         if (r.one_in(12)) now += point(any_place(m, r)) + polygon({0, 1, 2, 0});
-        if (r.one_in(20)) now += inner_ring({0, 2, 1, 0});
-        if (r.one_in(30)) // before any polygon of the load, refused or not
-            now.insert(now.find('\n') + 1, inner_ring(r.one_in(2) ? Ring{} : Ring{0, 1, 2, 0}));
         std::uint32_t number = r.one_in(20) ? 0xFFFFFFF0u : 0;
         const int corrections = r.one_in(4) ? 0 : r.below(r.one_in(5) ? 120 : 25);
         for (int c = 0; c < corrections; c++) now += any_correction(m, number, r);

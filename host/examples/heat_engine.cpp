@@ -1,7 +1,6 @@
 // A heat engine's day in small: the morning's load, then corrections from two routes in the order of their arrival. The
 // engine uses a volume only while the building is accepted, and sees every frame that was refused, with its number. In the
-// evening a window planner asks which polygons share the ridge; of the house with a courtyard, which has inner rings in floor and roof,
-// the foot of the courtyard's wall.
+// evening a window planner asks which polygons share the ridge.
 // Usage: heat_engine LOAD FAST SLOW; a line of FAST or SLOW is a time of arrival and a frame, or a remark after '#'.
 #include "framecheck.hpp"
 
@@ -81,11 +80,7 @@ int day(const char *load, const char *fast, const char *slow) {
         std::printf("no building is held\n");
         return 1;
     }
-    std::size_t inner = 0;
-    for (std::size_t p = 0; p < building.polygons(); p++) inner += building.inner_rings(p);
-    std::printf("load: %zu points, %zu polygons", building.points(), building.polygons());
-    if (inner > 0) std::printf(" with %zu inner rings", inner);
-    std::printf(": ");
+    std::printf("load: %zu points, %zu polygons: ", building.points(), building.polygons());
     print(*building.report());
 
     std::vector<Arrival> arrivals;
@@ -101,7 +96,7 @@ int day(const char *load, const char *fast, const char *slow) {
         std::printf("polygon %zu: finding %02X, position %u, last touched by no. %u, part %lld\n", p,
                     static_cast<unsigned>(answers[p].finding), answers[p].position.index, answers[p].stamp,
                     static_cast<long long>(answers[p].part));
-    print_edge(building, 8, 9); // the ridge of the house in data/, or the foot of the courtyard's wall
+    print_edge(building, 8, 9); // the ridge of the house in data/
     std::printf("%zu of %zu frames refused\n", building.refused().size(), building.corrections().size());
     return 0;
 }

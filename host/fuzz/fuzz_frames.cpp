@@ -38,10 +38,7 @@ struct Writer {
     std::uint32_t number = 0;
 
     void solid(int start) {
-        const auto model = start % 16 == 0  ? streams::buildings_with_courts()[0]
-                           : start % 8 == 0 ? streams::tetrahedron()
-                           : start % 3 == 0 ? streams::gabled_house()
-                                            : streams::box();
+        const auto model = start % 8 == 0 ? streams::tetrahedron() : start % 3 == 0 ? streams::gabled_house() : streams::box();
         stream = streams::load(model);
         points = static_cast<int>(model.points.size());
         polygons = static_cast<int>(model.rings.size());
@@ -54,11 +51,9 @@ struct Writer {
         } else if (kind < 70) {
             stream += streams::point(place(c));
             points++;
-        } else if (kind < 112) {
+        } else if (kind < 130) {
             stream += streams::polygon(ring(c, points));
             polygons++;
-        } else if (kind < 130) {
-            stream += streams::inner_ring(ring(c, points));
         } else {
             stream += streams::end_of_load();
             number = 0;

@@ -21,7 +21,6 @@ int main(int argc, char **argv) {
         if (i <= 4) write(folder, "corrected_" + std::to_string(i), streams::with_corrections(model));
     }
     for (const auto &model : streams::rings_that_fail_early()) write(folder, "edges_" + std::to_string(++i), streams::with_edge_questions(model));
-    for (const auto &model : streams::buildings_with_courts()) write(folder, "courts_" + std::to_string(++i), streams::load(model));
     for (int check : {3, 5, 6}) write(folder, "late_" + std::to_string(check), streams::load(streams::late_rings("", check)));
     const int count = argc > 2 ? std::atoi(argv[2]) : 0;
     for (int seed = 1; seed <= count; seed++) {

@@ -21,41 +21,33 @@ enum {
     FRAMECHECK_ROOM_A_LINE = 33,       /* bytes of answer room for each line */
     FRAMECHECK_MOST_POINTS = 512,
     FRAMECHECK_MOST_POLYGONS = 256,
-    FRAMECHECK_MOST_INNER = 8,         /* inner rings of a polygon */
     FRAMECHECK_MOST_RING = 128,        /* entries in a ring */
     FRAMECHECK_MOST_ENTRIES = 1024,    /* entries in all rings */
     FRAMECHECK_MOST_COORDINATE = 100000, /* mm, in size */
     FRAMECHECK_MOST_TOLERANCE = 1000,  /* mm */
-    FRAMECHECK_LONGEST_FRAME = 514,    /* digits: a ring of 128 entries */
+    FRAMECHECK_LONGEST_FRAME = 514,    /* digits: a polygon of 128 entries */
     FRAMECHECK_NO_USER = 0xFFFF        /* where an edge has no first or no second user */
 };
 
-/* Document 02 adds two frames to document 01's:
- *   08, n point numbers, 4 each           inner ring of the last accepted polygon of the running load, n from 0 to 128 as in 03
- *   0C, point 4, point 4                  edge question: who uses the edge between two points, named in either order
- * A polygon is its rings, the outer one of its 03 frame and at most 8 inner ones. A turn reverses each of them; a move stamps a polygon if
- * any of them lists the point; its part is the sum of theirs, each from its own first point; the edges of all of them count alike. 08 is
- * refused 02 with no load running or before any polygon of it, then 05 for an unknown point, then 04 for a ninth inner ring or more
- * than 1,024 entries in all. */
+/* Document 02 adds one frame to document 01's:
+ *   0C, point 4, point 4                  edge question: who uses the edge between two points, named in either order */
 
 /* The answer to a line, each field in upper-case hexadecimal:
- *   00                                    begin, point, polygon or inner ring accepted
+ *   00                                    begin, point or polygon accepted
  *   00, check 2, a 4, b 4, faulty 4, six-volume 16   end of load, move or turn accepted: the report
  *   00, finding 2, position 4, stamp 8, part 16      question accepted
  *   00, users 4, first user 4, second user 4         edge question accepted
  *   01 to 07                              refused
  * Report and question's answer are both 32 digits: the line's kind tells them apart. A finding's position is, for 03, the least
  * entry of the ring whose number stood earlier, the closing entry aside; for 05 the least edge that meets another where it must not,
- * an edge having the index of its first entry; for 06 the least entry that is too far from the plane; else 0. All count from 0, and
- * on from ring to ring: a position in an inner ring adds the entries of all rings before it. In a report a is the lowest polygon
- * with a finding, and b its position. A polygon is a user of an edge once for each time that its rings go from one of the points to the other, whatever its finding; a step from a number to itself is no edge. First and second are the two
+ * an edge having the index of its first entry; for 06 the least entry that is too far from the plane; else 0. All count from 0. In a
+ * report a is the lowest polygon with a finding, and b its position. A polygon is a user of an edge once for each time that its ring
+ * goes from one of the points to the other, whatever its finding; a step from a number to itself is no edge. First and second are the two
  * lowest of the users so counted, FFFF where there is none: an edge used twice by polygon 3 and once by 5 has 3, 3 and 3. Two points that
  * share no edge have no users. */
 
-/* The checks; 01 to 06, 0E and 0F are also a polygon's findings, which are tried in this order: 01 to 05 ring by ring, the outer one
- * first, each with its own normal; then 06, 0E and 0F. 06 goes by true distance, exactly: it fails where, for some point p of any of the
- * rings, (N.(p - first))^2 > tolerance^2 * (Nx^2 + Ny^2 + Nz^2), N and first being the outer ring's. 0E and 0F are tried in the plane
- * left by dropping the axis where that N is largest. */
+/* The checks; 01 to 06 are also a polygon's findings. 06 goes by true distance, exactly: it fails where, for some point p of the ring,
+ * (N.(p - first))^2 > tolerance^2 * (Nx^2 + Ny^2 + Nz^2), N being the ring's normal. */
 enum {
     FRAMECHECK_ACCEPTED = 0x00,
     FRAMECHECK_FEW_ENTRIES = 0x01,
@@ -70,9 +62,7 @@ enum {
     FRAMECHECK_EDGE_SAME_DIRECTION = 0x0A,
     FRAMECHECK_NOT_REACHED = 0x0B,
     FRAMECHECK_NOT_LINKED = 0x0C,
-    FRAMECHECK_NO_VOLUME = 0x0D,
-    FRAMECHECK_RINGS_MEET = 0x0E,
-    FRAMECHECK_RING_MISPLACED = 0x0F
+    FRAMECHECK_NO_VOLUME = 0x0D
 };
 
 /* A frame's refusals. */
@@ -101,7 +91,7 @@ static inline const char *framecheck_check_sentence(int check) {
     case FRAMECHECK_NUMBER_TWICE: return "With the last entry left aside, some point number stands twice in the ring.";
     case FRAMECHECK_ZERO_NORMAL: return "The ring's normal is zero in all three components.";
     case FRAMECHECK_EDGES_MEET: return "Two edges of the ring meet where they must not.";
-    case FRAMECHECK_NOT_PLANAR: return "A point of the polygon lies further from its plane than the tolerance.";
+    case FRAMECHECK_NOT_PLANAR: return "A point of the ring lies further from its plane than the tolerance.";
     case FRAMECHECK_FEW_POLYGONS: return "The building has fewer than 4 polygons; element a is their count.";
     case FRAMECHECK_EDGE_ONCE: return "The edge a, b is used once.";
     case FRAMECHECK_EDGE_MORE_THAN_TWICE: return "The edge a, b is used more than twice.";
@@ -109,9 +99,6 @@ static inline const char *framecheck_check_sentence(int check) {
     case FRAMECHECK_NOT_REACHED: return "Polygon a is not reachable from polygon 0 across shared edges.";
     case FRAMECHECK_NOT_LINKED: return "The polygons at point a are not all linked across edges that end at it.";
     case FRAMECHECK_NO_VOLUME: return "The six-volume is zero or negative.";
-    case FRAMECHECK_RINGS_MEET: return "Two rings of the polygon share a point.";
-    case FRAMECHECK_RING_MISPLACED:
-        return "An inner ring is not inside the outer one, lies inside another, or does not run the opposite way round.";
     default: return "Not a check of document 01.";
     }
 }
@@ -129,9 +116,9 @@ static inline const char *framecheck_position_sentence(int check) {
 static inline const char *framecheck_refusal_sentence(int refusal) {
     switch (refusal) {
     case FRAMECHECK_BROKEN: return "A character, kind or length that the frame table does not have.";
-    case FRAMECHECK_WRONG_STATE: return "A load frame while no load is running, an inner ring before any polygon of it, or a correction or question while no building is held.";
+    case FRAMECHECK_WRONG_STATE: return "A load frame while no load is running, or a correction or question while no building is held.";
     case FRAMECHECK_BEYOND_BOUND: return "The tolerance or a coordinate is beyond its bound.";
-    case FRAMECHECK_TABLE_FULL: return "One point, polygon, inner ring or entry more than the tables hold.";
+    case FRAMECHECK_TABLE_FULL: return "One point, polygon or entry more than the tables hold.";
     case FRAMECHECK_UNKNOWN_NUMBER:
         return "A point or polygon number that is not below the present count, or an edge asked for from a point to itself.";
     case FRAMECHECK_PLACE_TAKEN: return "The place is that of another point.";

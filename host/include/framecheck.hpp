@@ -94,11 +94,9 @@ enum class Check : std::uint8_t {
     not_reached = FRAMECHECK_NOT_REACHED,
     not_linked = FRAMECHECK_NOT_LINKED,
     no_volume = FRAMECHECK_NO_VOLUME,
-    rings_meet = FRAMECHECK_RINGS_MEET,
-    ring_misplaced = FRAMECHECK_RING_MISPLACED,
 };
 
-// What one polygon was found to fail: the first of checks 01 to 06, 0E and 0F, or none.
+// What one polygon was found to fail: the first of checks 01 to 06, or none.
 enum class Finding : std::uint8_t {
     none = FRAMECHECK_ACCEPTED,
     few_entries = FRAMECHECK_FEW_ENTRIES,
@@ -107,8 +105,6 @@ enum class Finding : std::uint8_t {
     zero_normal = FRAMECHECK_ZERO_NORMAL,
     edges_meet = FRAMECHECK_EDGES_MEET,
     not_planar = FRAMECHECK_NOT_PLANAR,
-    rings_meet = FRAMECHECK_RINGS_MEET,
-    ring_misplaced = FRAMECHECK_RING_MISPLACED,
 };
 
 enum class Refusal : std::uint8_t {
@@ -130,8 +126,7 @@ enum class StreamRefusal : std::int8_t {
 // Document 01's number of any of the four.
 template <class E> constexpr int number_of(E e) noexcept { return static_cast<int>(e); }
 
-// Where in a polygon a finding is met: 03 and 06 at an entry, 05 at an edge, which has the index of its first entry, the others nowhere.
-// Entries are counted on from the outer ring to the inner ones.
+// Where in a ring a finding is met: 03 and 06 at an entry, 05 at an edge, which has the index of its first entry, the others nowhere.
 struct Position {
     enum class Of : std::uint8_t { nothing, entry, edge } of = Of::nothing;
     std::uint16_t index = 0; // counted from 0; 0 where there is nothing
@@ -159,7 +154,7 @@ inline std::string_view sentence(StreamRefusal r) noexcept { return framecheck_s
 // A six-volume, which is in sixths of a cubic millimetre, in cubic metres; rounded twice at most, so keep the whole number.
 inline double cubic_metres(std::int64_t six_volume) noexcept { return static_cast<double>(six_volume) / 6e9; }
 
-struct Plain {}; // begin, point, polygon or inner ring accepted
+struct Plain {}; // begin, point or polygon accepted
 
 struct Report { // end of load, move or turn accepted
     Check check = Check::accepted;
@@ -177,13 +172,13 @@ struct Report { // end of load, move or turn accepted
 
 struct PolygonAnswer { // question accepted
     Finding finding = Finding::none;
-    Position position;              // where in its rings
+    Position position;              // where in its ring
     std::uint32_t stamp = 0;        // number of the last correction that touched the polygon
     std::int64_t part = 0;          // its part of the six-volume
 };
 
 struct EdgeAnswer { // edge question accepted
-    std::uint16_t users = 0;                    // a polygon once for each time that its rings use the edge
+    std::uint16_t users = 0;                    // a polygon once for each time that its ring uses the edge
     std::optional<std::uint16_t> first, second; // the two lowest of them, so that one polygon may be both
 
     // The polygon across the edge from one that uses it; nothing where the edge has another number of users than two.
@@ -311,16 +306,13 @@ inline Answer read_answer(std::string_view frame, std::string_view line) {
     const std::string_view kind = frame.substr(0, 2);
     if (detail::digits(line) && line.size() == 2) {
         const int head = static_cast<int>(detail::number(line));
-        if (head == 0 && (kind == "01" || kind == "02" || kind == "03" || kind == "08")) return Plain{};
+        if (head == 0 && (kind == "01" || kind == "02" || kind == "03")) return Plain{};
         if (head != 0 && head <= number_of(Refusal::late)) return Refused{static_cast<Refusal>(head)};
     }
     if (detail::digits(line) && line.size() == 32 && line.substr(0, 2) == "00") {
         const int what = static_cast<int>(detail::number(line.substr(2, 2)));
-        const bool of_polygon = what <= number_of(Finding::not_planar) || what == number_of(Finding::rings_meet) ||
-                                what == number_of(Finding::ring_misplaced);
-        if ((kind == "04" || kind == "05" || kind == "06") && (of_polygon || what <= number_of(Check::no_volume)))
-            return detail::read_report(line);
-        if (kind == "07" && of_polygon) return detail::read_polygon_answer(line);
+        if ((kind == "04" || kind == "05" || kind == "06") && what <= number_of(Check::no_volume)) return detail::read_report(line);
+        if (kind == "07" && what <= number_of(Finding::not_planar)) return detail::read_polygon_answer(line);
     }
     if (detail::digits(line) && line.size() == 14 && line.substr(0, 2) == "00" && kind == "0C") return detail::read_edge_answer(line);
     throw Unreadable(std::string(line));
@@ -445,10 +437,7 @@ class Building {
     const std::optional<Report> &report() const noexcept { return report_; }
 
     std::size_t points() const noexcept { return points_.size(); }
-    std::size_t polygons() const noexcept { return polygons_.size(); }
-
-    // The inner rings of a polygon; none where there is no such polygon.
-    std::size_t inner_rings(std::size_t polygon) const noexcept { return polygon < polygons_.size() ? polygons_[polygon].size() - 1 : 0; }
+    std::size_t polygons() const noexcept { return rings_.size(); }
     std::uint32_t last_number() const noexcept { return last_; }
 
     // One polygon's answer; all frames are passed again.
@@ -464,10 +453,10 @@ class Building {
     // Every polygon's answer, in order, with as many questions a call as fit.
     std::vector<PolygonAnswer> polygon_answers() const {
         std::vector<PolygonAnswer> all;
-        while (held_ && all.size() < polygons_.size()) {
+        while (held_ && all.size() < rings_.size()) {
             std::string stream = stream_;
             std::size_t lines = lines_, asked = 0;
-            for (; all.size() + asked < polygons_.size(); asked++, lines++) {
+            for (; all.size() + asked < rings_.size(); asked++, lines++) {
                 const std::string line = "07" + detail::hex(all.size() + asked, 4) + "\n";
                 if (asked > 0 && (stream.size() + line.size() > FRAMECHECK_MOST_BYTES || lines + 1 > FRAMECHECK_MOST_LINES)) break;
                 stream += line;
@@ -525,8 +514,7 @@ class Building {
 
     // The corrected tables, in the digits that were sent.
     std::string tolerance_;
-    std::vector<std::string> points_;
-    std::vector<std::vector<std::string>> polygons_; // the outer ring, then the inner ones
+    std::vector<std::string> points_, rings_;
 
     std::size_t folds_ = 0;
     std::uint32_t folded_last_ = 0;             // last number when the history was folded
@@ -559,7 +547,7 @@ class Building {
         const std::string_view kind = frame.substr(0, 2);
         if ((kind == "05" && frame.size() == 38) || (kind == "06" && frame.size() == 14))
             if (detail::digits(frame.substr(2, 8))) c.number = static_cast<std::uint32_t>(detail::number(frame.substr(2, 8)));
-        const bool passed_on = kind != "01" && kind != "02" && kind != "03" && kind != "04" && kind != "07" && kind != "08" && kind != "0C";
+        const bool passed_on = kind != "01" && kind != "02" && kind != "03" && kind != "04" && kind != "07" && kind != "0C";
         if (frame.size() > FRAMECHECK_LONGEST_FRAME || frame.find('\n') != std::string_view::npos) c.outcome = Refused{Refusal::broken};
         else if (passed_on) c.outcome = Waiting{};
         const bool queued = c.waiting() != nullptr;
@@ -620,13 +608,12 @@ class Building {
         case '1':
             tolerance_ = frame.substr(2);
             points_.clear();
-            polygons_.clear();
+            rings_.clear();
             held_ = false;
             report_.reset();
             break;
         case '2': points_.emplace_back(frame.substr(2)); break;
-        case '3': polygons_.push_back({std::string(frame.substr(2))}); break;
-        case '8': polygons_.back().emplace_back(frame.substr(2)); break; // an accepted one has a polygon before it
+        case '3': rings_.emplace_back(frame.substr(2)); break;
         case '4':
             held_ = true;
             last_ = 0;
@@ -636,7 +623,7 @@ class Building {
             last_ = static_cast<std::uint32_t>(detail::number(frame.substr(2, 8)));
             break;
         default:
-            for (auto &ring : polygons_.at(detail::number(frame.substr(10, 4)))) turn(ring);
+            turn(rings_.at(detail::number(frame.substr(10, 4))));
             last_ = static_cast<std::uint32_t>(detail::number(frame.substr(2, 8)));
         }
     }
@@ -659,10 +646,9 @@ class Building {
         for (const auto &one : polygon_answers()) stamps.push_back(one.stamp);
         std::string fresh = "01" + tolerance_ + "\n";
         for (const auto &point : points_) fresh += "02" + point + "\n";
-        std::size_t end = 1 + points_.size();
-        for (const auto &rings : polygons_)
-            for (std::size_t r = 0; r < rings.size(); r++, end++) fresh += (r == 0 ? "03" : "08") + rings[r] + "\n";
+        for (const auto &ring : rings_) fresh += "03" + ring + "\n";
         fresh += "04\n";
+        const std::size_t end = 1 + points_.size() + rings_.size();
         // A correction was accepted, so there is a point or, of a building without points, an empty ring to turn.
         if (last_ != 0 && !points_.empty()) fresh += "05" + detail::hex(last_, 8) + "0000" + points_[0] + "\n";
         else if (last_ != 0) fresh += "06" + detail::hex(last_, 8) + "0000\n";

@@ -12,7 +12,7 @@ use Rattle.whole.specs.laws.Bools.{or_left, or_right}
 use Rattle.crossing.specs.Crossed.{forbidden, crossed_at}
 use Rattle.plane.specs.held.Edges.{edge_at}
 use Rattle.boxes.specs.held.Around.{NextClash, Nexts, FirstNext, FirstNear}
-use Rattle.crossing.specs.laws.Pairs.{edges, row_here, row-back-to, row_at, Clear, clear-found, clear-end}
+use Rattle.crossing.specs.laws.Pairs.{edges, row_here, row-back_to, row_at, Clear, clear-found, clear-end}
 
 -- ---- edges that follow one another: the first n are looked at
 module _ (us vs : List ℤ) (m : ℕ) where
@@ -54,7 +54,7 @@ module _ (us vs : List ℤ) (m : ℕ) where
   near-row : (r j : ℕ) → r < j → j < m → forbidden m (r, edge_at us vs r) (j, edge_at us vs j) ≡ true → any (forbidden m (r, edge_at us vs r)) (drop (r + 1) (edges us vs m)) ≡ true
   near-row r j a b e =
       let z : r + 1 + (j - (r + 1)) ≡ j = omega arith in
-      row-back-to us vs m (forbidden m (r, edge_at us vs r)) (r + 1) (j - (r + 1)) (omega arith)
+      row-back_to us vs m (forbidden m (r, edge_at us vs r)) (r + 1) (j - (r + 1)) (omega arith)
       (ap (λ (n : ℕ). any (forbidden m (r, edge_at us vs r)) (drop n (edges us vs m))) z ∙ row_here us vs m (forbidden m (r, edge_at us vs r)) j b e)
 
   -- the first and the last have nothing in common that they may not

@@ -1,4 +1,4 @@
 -- How the code's arrays and numbers stand for what the definitions say.
-pub mod Mendable
+pub mod Early
 pub mod Steps
 pub mod Writes

@@ -1,6 +1,5 @@
 -- What is proved of the definitions.
 pub mod Agree
 pub mod Check
-pub mod Mendable
 pub mod Steps
 pub mod Writes

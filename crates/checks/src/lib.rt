@@ -2,10 +2,9 @@
 ghost use Rattle.std.specs.Prelude.{◌≡◌, ◌≤◌, length};
 ghost use Rattle.whole.specs.held.Stored.{zeroed};
 ghost use Rattle.building.specs.Tables.{loaded};
-ghost use Rattle.ring.specs.held.Rings.{polygon_at};
-ghost use Rattle.building.specs.held.Holds.{arrays, held_tables, is_unmendable_of, Loaded, Sizes, Shown, Did};
+ghost use Rattle.building.specs.held.Holds.{arrays, held_tables, Loaded, Sizes, Shown, Did};
 ghost use Rattle.checks.specs.held.Steps.{Checked};
-ghost use Rattle.checks.specs.held.Mendable.{all_mendable_of, is_early_of, Tells, Telling};
+ghost use Rattle.checks.specs.held.Early.{is_early_of, EarlyAt};
 ghost use Rattle.checks.specs.held.Writes.{checked, LoadWrites};
 
 use building::Scalars;
@@ -36,13 +35,13 @@ fn check_rings(
     }
 }
 
-// None of the first n polygons has a stamp.
-fn clear_stamps(stamps: &mut [u32; 256], n: usize)
-    requires { (length stamps.old ≡ 256) × (n ≤ 256) }
-    ensures { stamps.new ≡ zeroed stamps.old n }
+// No polygon has a stamp.
+fn clear_stamps(stamps: &mut [u32; 256])
+    requires { length stamps.old ≡ 256 }
+    ensures { stamps.new ≡ zeroed stamps.old 256 }
 {
     let mut p = 0;
-    while p < n {
+    while p < 256 {
         stamps[p] = 0;
         p += 1;
     }
@@ -68,50 +67,19 @@ fn is_early(kept: u16) -> bool
     (1 <= n) & (n <= 3)
 }
 
-fn wide(x: u16) -> usize
-    ensures { result ≡ x }
-{
-    x as usize
-}
-
-// Whether no correction mends polygon p: where it has one ring, its kept finding tells; the rings of others are looked at.
-fn is_unmendable(
-    entries: &[u16; 1024],
-    starts: &[u16; 1025],
-    firsts: &[u16; 257],
-    findings: &[u16; 256],
-    p: usize,
-) -> bool
-    requires { Tells entries.now starts.now firsts.now findings.now p }
-    ensures { result ≡ is_unmendable_of (polygon_at entries.now starts.now firsts.now p) }
-{
-    let from = wide(firsts[p]);
-    let to = wide(firsts[p + 1]);
-    if to == from + 1 {
-        return is_early(findings[p]);
-    }
-    mending::is_unmendable(entries, starts, from, to)
-}
-
-// Whether corrections can mend each of the first n polygons.
-fn all_mendable(
-    entries: &[u16; 1024],
-    starts: &[u16; 1025],
-    firsts: &[u16; 257],
-    findings: &[u16; 256],
-    n: usize,
-) -> bool
-    requires { Telling entries.now starts.now firsts.now findings.now n }
-    ensures { result ≡ all_mendable_of entries.now starts.now firsts.now n }
+// The lowest of the first n polygons that fails one of checks 01 to 03; n if there is none.
+fn lowest_early(findings: &[u16; 256], n: usize) -> usize
+    requires { (n ≤ 256) × (length findings.now ≡ 256) }
+    ensures { EarlyAt findings.now n result }
 {
     let mut i = 0;
     while i < n {
-        if is_unmendable(entries, starts, firsts, findings, i) {
-            return false;
+        if is_early(findings[i]) {
+            return i;
         }
         i += 1;
     }
-    true
+    i
 }
 
 // The scalars after end of load, with the check of the whole that fails first as the rings stand now.
@@ -138,8 +106,8 @@ fn held_shape(
 }
 
 // End of load: "checks the building and holds it with last correction number 0 and all stamps 0". The edge table is the list of edges
-// too, and is built whatever the findings; checks 07 to 0C are tried only where no polygon is one that no correction mends: such a one has
-// a finding, which is reported before them, for good.
+// too, and is built whatever the findings; checks 07 to 0C are tried only where every ring passes 01 to 03, since where one does not no
+// correction mends it.
 pub fn check_all(
     points: &[i32; 1536],
     entries: &[u16; 1024],
@@ -158,11 +126,11 @@ pub fn check_all(
     ensures load_writes { LoadWrites (arrays points.now entries.now starts.now firsts.now stamps.old findings.old parts.old table.old turned.old) s stamps.new findings.new parts.new table.new turned.new result }
 {
     check_rings(points, entries, starts, firsts, findings, parts, s);
-    let n = s.polygons;
-    clear_stamps(stamps, n);
+    clear_stamps(stamps);
     clear_turned(turned);
-    let mendable = all_mendable(entries, starts, firsts, findings, n);
-    let kept = shell::built(entries, starts, firsts, n, table, mendable);
+    let n = s.polygons;
+    let early = lowest_early(findings, n);
+    let kept = shell::built(entries, starts, firsts, n, table, n <= early);
     let edges = kept.count;
     let fixed = kept.fixed;
     held_shape(table, turned, s, edges, fixed)

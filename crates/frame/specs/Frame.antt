@@ -11,7 +11,6 @@ pub data Frame : Type 0 where
   move : ℕ → ℕ → ℤ → ℤ → ℤ → Frame
   turn : ℕ → ℕ → Frame
   question : ℕ → Frame
-  inner : List ℕ → Frame
   across : ℕ → ℕ → Frame
   broken : Frame
 
@@ -24,7 +23,6 @@ pub data Kind : Type 0 where
   move : Kind
   turn : Kind
   question : Kind
-  inner : Kind
   across : Kind
   unknown : Kind
 
@@ -38,24 +36,18 @@ kind_of n =
     (cond (eqb n 5) Kind.move
     (cond (eqb n 6) Kind.turn
     (cond (eqb n 7) Kind.question
-    (cond (eqb n 8) Kind.inner
     (cond (eqb n 12) Kind.across
-    Kind.unknown))))))))
+    Kind.unknown)))))))
 
--- the length of a line with a ring: two digits, and four for each of 0 to 128 point numbers
-abbrev pub fits_ring_of : ℕ → Bool
-fits_ring_of n = leb n 514 && eqb (n % 4) 2
-
--- the column Length: whether a line of n digits is a frame of the kind; document 02 (iv): "Frame 08 .. with fields as in 03"
+-- the column Length: whether a line of n digits is a frame of the kind
 unfoldable pub fits : Kind → ℕ → Bool
 fits Kind.begin n = eqb n 6
 fits Kind.point n = eqb n 26
-fits Kind.polygon n = fits_ring_of n
+fits Kind.polygon n = leb n 514 && eqb (n % 4) 2
 fits Kind.end_of_load n = eqb n 2
 fits Kind.move n = eqb n 38
 fits Kind.turn n = eqb n 14
 fits Kind.question n = eqb n 6
-fits Kind.inner n = fits_ring_of n
 fits Kind.across n = eqb n 10
 fits Kind.unknown n = false
 
@@ -84,7 +76,6 @@ filled Kind.end_of_load l = Frame.end_of_load
 filled Kind.move l = unsigned 8 (λ n. unsigned 4 (λ p. coordinate (λ x. coordinate (λ y. coordinate (λ z _. Frame.move n p x y z))))) l
 filled Kind.turn l = unsigned 8 (λ n. unsigned 4 (λ p _. Frame.turn n p)) l
 filled Kind.question l = unsigned 4 (λ p _. Frame.question p) l
-filled Kind.inner l = Frame.inner (numbers l)
 filled Kind.across l = unsigned 4 (λ a. unsigned 4 (λ b _. Frame.across a b)) l
 filled Kind.unknown l = broken
 

@@ -1,12 +1,12 @@
 // Frames in: the frame of a line.
 
-ghost use Rattle.std.specs.Prelude.{◌+◌, ◌<◌, ◌^◌, ◌≡◌, true, length, take, drop, get_or};
+ghost use Rattle.std.specs.Prelude.{◌+◌, ◌<◌, ◌^◌, ◌≡◌, true, take, drop, get_or};
 ghost use Rattle.hex.specs.Hex.{all_hex_of, number, signed32};
 ghost use Rattle.fields.specs.held.Fields.{HexField};
-ghost use Rattle.frame.specs.Frame.{Kind, fits_ring_of, numbers, decode};
+ghost use Rattle.frame.specs.Frame.{Kind, numbers, decode};
 ghost use Rattle.frame.specs.held.Meaning.{meaning, Listed, shaped};
 
-// The frame of a line, by value; a ring's point numbers stay in its line, where `entry` reads them.
+// The frame of a line, by value; a polygon's point numbers stay in its line, where `entry` reads them.
 #[derive(Drop)]
 pub enum Fields {
     Begin(u16),
@@ -16,7 +16,6 @@ pub enum Fields {
     Move(u32, u16, i64, i64, i64),
     Turn(u32, u16),
     Question(u16),
-    Inner(usize),
     Across(u16, u16),
     Broken,
 }
@@ -40,7 +39,6 @@ pub fn decode(line: &[u8]) -> Fields
         5 => read_move(line),
         6 => read_turn(line),
         7 => read_question(line),
-        8 => read_inner(line),
         12 => read_across(line),
         _ => Fields::Broken,
     }
@@ -73,8 +71,11 @@ fn read_point(line: &[u8]) -> Fields
 fn read_polygon(line: &[u8]) -> Fields
     ensures { meaning result line.now ≡ shaped Kind.polygon line.now }
 {
-    if fits_ring(line) {
-        return Fields::Polygon(line.len() / 4);
+    let n = line.len();
+    if n <= 514 {
+        if n % 4 == 2 {
+            return Fields::Polygon((n - 2) / 4);
+        }
     }
     Fields::Broken
 }
@@ -127,15 +128,6 @@ fn read_question(line: &[u8]) -> Fields
     Fields::Broken
 }
 
-fn read_inner(line: &[u8]) -> Fields
-    ensures { meaning result line.now ≡ shaped Kind.inner line.now }
-{
-    if fits_ring(line) {
-        return Fields::Inner(line.len() / 4);
-    }
-    Fields::Broken
-}
-
 fn read_across(line: &[u8]) -> Fields
     requires { all_hex_of line.now ≡ true }
     ensures { meaning result line.now ≡ shaped Kind.across line.now }
@@ -147,17 +139,6 @@ fn read_across(line: &[u8]) -> Fields
         );
     }
     Fields::Broken
-}
-
-// Whether a line has the length of one with a ring; its digits after the kind are then four for each point number.
-fn fits_ring(line: &[u8]) -> bool
-    ensures { result ≡ fits_ring_of (length line.now) }
-{
-    let n = line.len();
-    if n <= 514 {
-        return n % 4 == 2;
-    }
-    false
 }
 
 // The coordinate that starts at an offset.
@@ -176,7 +157,7 @@ fn signed(v: u64) -> i64
     ((v + 2147483648) % 4294967296) as i64 - 2147483648
 }
 
-// The i-th point number of a ring's line.
+// The i-th point number of a polygon frame's line.
 pub fn entry(line: &[u8], i: usize) -> u16
     requires { Listed line.now i }
     ensures { result ≡ get_or (numbers (drop 2 line.now)) i 0 }

@@ -108,33 +108,7 @@ fn look_at_one(
     polygon::look_at(points, &all[from..to], tolerance)
 }
 
-// The finding and the part of the polygon of the rings `from` up to `to`, however many: 01 to 05 ring by ring, then what is told of
-// them together.
-pub fn look_at_several(
-    points: &[i32; 1536],
-    entries: &[u16; 1024],
-    starts: &[u16; 1025],
-    from: usize,
-    to: usize,
-    tolerance: u16,
-) -> Look
-    requires coords { Coords points.now }
-    requires lies { Lies entries.now starts.now from to }
-    requires tolerance_bound { tolerance ≤ 1000 }
-    ensures kept_value { result.kept ≡ kept_finding (finding tolerance (points_of points.now) (polygon_of entries.now starts.now from to)) }
-    ensures part_value { result.part ≡ part (points_of points.now) (polygon_of entries.now starts.now from to) }
-{
-    let early = rings::look_at_rings(points, entries, starts, from, to);
-    let kept = early.kept;
-    let part = early.part;
-    if kept != 0 {
-        return Look { kept, part };
-    }
-    let kept = last_three(points, entries, starts, from, to, tolerance);
-    Look { kept, part }
-}
-
-// The finding and the part of the polygon of the rings `from` up to `to`. One ring, which most polygons have, is looked at by itself.
+// The finding and the part of the polygon of the rings `from` up to `to`: 01 to 05 ring by ring, then what is told of them together.
 pub fn look_at(
     points: &[i32; 1536],
     entries: &[u16; 1024],
@@ -152,7 +126,14 @@ pub fn look_at(
     if to == from + 1 {
         return look_at_one(points, entries, starts, from, tolerance);
     }
-    look_at_several(points, entries, starts, from, to, tolerance)
+    let early = rings::look_at_rings(points, entries, starts, from, to);
+    let kept = early.kept;
+    let part = early.part;
+    if kept != 0 {
+        return Look { kept, part };
+    }
+    let kept = last_three(points, entries, starts, from, to, tolerance);
+    Look { kept, part }
 }
 
 // Where the finding is met whose number is known: of 03, 05 and 06 only that one is looked for.

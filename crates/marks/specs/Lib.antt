@@ -1,2 +1,1 @@
-pub mod held
 pub mod laws

@@ -1,3 +1,2 @@
 -- What is proved of the definitions.
 pub mod Agree
-pub mod Marked

@@ -75,11 +75,11 @@ module _ (way : Bool) (at : ℕ → Spot) (m : ℕ) (fan : every (fans way at) (
       ap (λ (n : ℕ). any_two (forbidden n) (numbered es)) e
       ∙ none-two (forbidden m) (numbered es) (0, d) each
     where
-      at_is : (i : ℕ) → i < length (numbered es) → get_or (numbered es) i (0, d) ≡ (i, edge i)
-      at_is i g = let l : i < length es = omega (arith, numbered-length es) in numbered-at es i (0, d) d l ∙ ap (λ (s : Segment). (i, s)) (h i (omega arith))
+      at-is : (i : ℕ) → i < length (numbered es) → get_or (numbered es) i (0, d) ≡ (i, edge i)
+      at-is i g = let l : i < length es = omega (arith, numbered-length es) in numbered-at es i (0, d) d l ∙ ap (λ (s : Segment). (i, s)) (h i (omega arith))
 
       each : (i j : ℕ) → i < j → j < length (numbered es) → forbidden m (get_or (numbered es) i (0, d)) (get_or (numbered es) j (0, d)) ≡ false
-      each i j f g = ap₂ (forbidden m) (at_is i (omega arith)) (at_is j g) ∙ uncrossing i j f (omega (arith, numbered-length es))
+      each i j f g = ap₂ (forbidden m) (at-is i (omega arith)) (at-is j g) ∙ uncrossing i j f (omega (arith, numbered-length es))
 
 -- ---- a closed ring of known points
 last_is : (ring : List ℕ) → 1 ≤ length ring → is_unclosed ring ≡ false → get_or ring (length ring - 1) 0 ≡ get_or ring 0 0

@@ -1,9 +1,8 @@
 // The lines of a stream one after the other, each refused or taken, and answered.
-ghost use Rattle.std.specs.Prelude.{◌≡◌, ℕ, ◌+◌, ◌*◌, ◌≤◌, ◌<◌, length, get_or};
+ghost use Rattle.std.specs.Prelude.{◌≡◌, ℕ, ◌+◌, ◌*◌, ◌≤◌, length, get_or};
 ghost use Rattle.lines.specs.Lines.{lines};
 ghost use Rattle.building.specs.held.Holds.{arrays};
-ghost use Rattle.ring.specs.Polygon.{all_rings};
-ghost use Rattle.service.specs.Service.{tables_of, step};
+ghost use Rattle.service.specs.Service.{step};
 ghost use Rattle.desk.specs.held.Holds.{service, Valid, Did};
 ghost use Rattle.replies.specs.held.Answered.{idle_desk, Answered};
 ghost use Rattle.space.specs.held.Points.{Coords};
@@ -15,7 +14,7 @@ use modes::Mode;
 use service::Refusal;
 use shell::Shape;
 
-// One line: its frame is refused or taken, and answered. There is room for a ring more: each has had a line.
+// One line: its frame is refused or taken, and answered.
 fn one(
     line: &[u8],
     points: &mut [i32; 1536],
@@ -30,7 +29,7 @@ fn one(
     room: &mut [u8],
     d: Desk,
 ) -> Desk
-    requires { ((d.at + 33 ≤ length room.old) × (length (all_rings (tables_of (service (arrays points.old entries.old starts.old firsts.old stamps.old findings.old parts.old table.old turned.old) d)).polygons) < 1024)) × (Valid (arrays points.old entries.old starts.old firsts.old stamps.old findings.old parts.old table.old turned.old) d) }
+    requires { (d.at + 33 ≤ length room.old) × (Valid (arrays points.old entries.old starts.old firsts.old stamps.old findings.old parts.old table.old turned.old) d) }
     ensures { Did (step (service (arrays points.old entries.old starts.old firsts.old stamps.old findings.old parts.old table.old turned.old) d) line.now) room.old d.at (arrays points.new entries.new starts.new firsts.new stamps.new findings.new parts.new table.new turned.new) room.new result }
 {
     let f = frame::decode(line);
@@ -59,7 +58,6 @@ fn one(
             let n = p as usize;
             asking::ask(stamps, findings, parts, room, d, n)
         }
-        Fields::Inner(n) => rings::add_inner(line, n, entries, starts, firsts, room, d),
         Fields::Across(m, n) => across::ask(table, room, d, m, n),
         Fields::Broken => desk::refuse(room, d, Refusal::Malformed),
     }
@@ -141,7 +139,7 @@ fn idle() -> Desk
 
 // All lines of the stream; nothing is held before the first.
 pub fn all(stream: &[u8], room: &mut [u8]) -> usize
-    requires { (length stream.now ≤ 65535) × ((length (lines stream.now) ≤ 1024) × (33 * length (lines stream.now) ≤ length room.old)) }
+    requires { (length stream.now ≤ 65535) × (33 * length (lines stream.now) ≤ length room.old) }
     ensures { Answered stream.now room.old room.new result }
 {
     let mut points = fresh_points();

@@ -1,5 +1,5 @@
 -- The three acceptance demands, in the architect's order and words, as theorems about the definitions.
-use Rattle.std.specs.Prelude.{ℕ, ◌+◌, ◌*◌, ◌≤◌, ◌<◌, ◌≡◌, refl, true, false, ltb, length, drop, get_or, ℤ, pos, negsuc}
+use Rattle.std.specs.Prelude.{ℕ, ◌*◌, ◌≤◌, ◌<◌, ◌≡◌, refl, true, false, ltb, length, drop, get_or, ℤ, pos, negsuc}
 use Rattle.std.proofs.Common.{arith, sym, ap, ◌∙◌}
 use Rattle.std.proofs.Math.Path.{subst}
 use mathlib.Core.List.{List, [], ◌∷◌, ◌++◌}
@@ -7,7 +7,7 @@ use Rattle.std.proofs.Math.Option.{none, some}
 use Rattle.std.specs.Int.Signed.{le_z}
 use Rattle.whole.specs.Lists.{tally}
 use Rattle.whole.specs.All.{All}
-use Rattle.frame.specs.Frame.{end_of_load, question, inner, across, decode}
+use Rattle.frame.specs.Frame.{end_of_load, question, across, decode}
 use Rattle.frame.specs.Encode.{encode}
 use Rattle.lines.specs.Lines.{lines, ended, joined}
 use Rattle.answer.specs.Answer.{plain, reported, told}
@@ -22,25 +22,24 @@ use Rattle.users.specs.EdgeList.{Listed, edge_list}
 use Rattle.edges.specs.Edges.{smaller, larger, used_once, used_often, used_alike}
 use Rattle.shell.specs.Shell.{not_reached, not_linked}
 use Rattle.building.specs.declared.Verdict.TheVariants.{Accepted, Faulty, Unsound, Inward}
-use Rattle.building.specs.Tables.{Tables, Building, with_inner}
+use Rattle.building.specs.Tables.{Tables, Building}
 use Rattle.building.specs.Report.{report, verdict, check_number_of, element_a_of, element_b_of, is_fault, findings, six_volume_of}
 use Rattle.building.specs.Thirteen.{NoneOfThirteen}
 use Rattle.building.specs.laws.Thirteen.{accepted_none, none_accepted, zero-none, none-counted, named_polygon}
 use Rattle.building.specs.Corrections.{stamp_of, last_number}
 use Rattle.service.specs.declared.Refusal.{Refusal}
-use Rattle.service.specs.declared.Refusal.TheVariants.{Misplaced, Full, Late}
-use Rattle.service.specs.Service.{State, nothing, loading, tables_of, building_of, is_loading_of, refusal, refusal_number_of, report_of, told_of, across_of, answer_to, Outcome, outcome, step, accepts}
+use Rattle.service.specs.declared.Refusal.TheVariants.{Late}
+use Rattle.service.specs.Service.{State, nothing, tables_of, building_of, refusal, refusal_number_of, report_of, told_of, across_of, answer_to, Outcome, outcome, step, accepts}
 use Rattle.service.specs.Stream.{Served, served, answers, after, run, Answers, Stands}
 use Rattle.service.specs.laws.Refusals.{refused-line, struck_stream}
 use Rattle.service.specs.Strike.{struck, accepted_answers, Left}
 use Rattle.service.specs.Fresh.{load_lines, fresh_report, fresh_held, fresh_stream}
 use Rattle.service.specs.Span.{is_correction, Span, loaded_by, corrections_of, corrected_by, held, SameButStamp, Numbered, told_in}
 use Rattle.service.specs.laws.Span.{held_tables, stamp_is, correction_fresh, correction_report, corrected_loadable, question_fresh, late_correction, end_reports, question_told}
-use Rattle.service.specs.laws.Inner.{inner_line, inner_last, no_load_misplaced, no_polygon-misplaced, ninth_full, after-eight}
 use Rattle.service.specs.laws.Across.{either_step, across_fresh, across-told, corrections_keep}
 use Rattle.service.specs.laws.TwoUsers.{none-two}
 use Rattle.service.specs.laws.Short.{step-short}
-use Rattle.service.specs.laws.Entry.{answer_agrees, fresh_lines, fresh_answers, fresh_no_more, fresh_bytes, entry-bytes, entry-refused, entry-line}
+use Rattle.service.specs.laws.Entry.{answer_agrees, fresh_lines, fresh_answers, fresh_few, fresh_short, entry-bytes, entry-refused, entry-line}
 use Rattle.service.specs.laws.Strike.{left-of}
 use Rattle.building.specs.laws.Thirteen as T
 use Rattle.inner.specs.laws.Position as P
@@ -83,8 +82,7 @@ pub room_kept : (stream room : List ℕ) → length (served stream room).room �
 room_kept = R.room_length
 
 -- ---- 2. The verdict, the element named, the number of polygons with a finding, each polygon's own finding and volume part, and the six-volume
--- are those of the thirteen checks, 06 by true distance (request (ii) of document 02), with the position of 03, 05 and 06 (request (iii)), and with 0E
--- and 0F among a polygon's own (request (iv))
+-- are those of the thirteen checks, 06 by true distance (request (ii) of document 02), with the position of 03, 05 and 06 (request (iii))
 
 -- what a report answers
 pub reports : (t : Tables) → report_of t ≡ reported (check_number_of (verdict t)) (element_a_of (verdict t)) (element_b_of (verdict t)) (tally is_fault (findings t)) (six_volume_of t)
@@ -106,30 +104,6 @@ tells_across m n st = refl
 pub either_order : (st : State) (m n : ℕ) (l l' : List ℕ) → decode l ≡ across m n → decode l' ≡ across n m → step st l ≡ step st l'
 either_order = either_step
 
--- document 02 (iv): "Frame 08 adds an inner ring .. to the last accepted polygon of a running load." An accepted one answers `00`, and the ring comes
--- behind the other inner rings of that polygon;
-pub adds_inner : (st : State) (l ring : List ℕ) → decode l ≡ inner ring → accepts st l ≡ true → step st l ≡ record { next = loading (with_inner ring (tables_of st)); answer = plain 0 }
-adds_inner = inner_line
-
-pub adds_to-last : (t : Tables) (ring : List ℕ) (done : List Polygon) (p : Polygon) → t.polygons ≡ done ++ (p ∷ [])
-    → (with_inner ring t).polygons ≡ done ++ (record { outer = p.outer; inner = p.inner ++ (ring ∷ []) } ∷ [])
-adds_to-last = inner_last
-
--- "02 also for 08 with no load running or before any polygon of it";
-pub no_load_refused : (st : State) (ring : List ℕ) → is_loading_of st ≡ false → refusal st (inner ring) ≡ Misplaced
-no_load_refused = no_load_misplaced
-
-pub no_polygon-refused : (t : Tables) (ring : List ℕ) → t.polygons ≡ [] → refusal (loading t) (inner ring) ≡ Misplaced
-no_polygon-refused = no_polygon-misplaced
-
--- "04 also for a ninth inner ring", where no earlier row refuses it; so "at most 8 inner rings each", whatever the lines
-pub ninth_refused : (t : Tables) (ring : List ℕ) (done : List Polygon) (p : Polygon) → t.polygons ≡ done ++ (p ∷ []) → All (λ (n : ℕ). n < length t.points) ring
-    → 8 ≤ length p.inner → refusal (loading t) (inner ring) ≡ Full
-ninth_refused = ninth_full
-
-pub at-most-eight : (ls : List (List ℕ)) → All (λ (p : Polygon). length p.inner ≤ 8) (tables_of (after nothing ls)).polygons
-at-most-eight = after-eight
-
 -- document 02 (iii): "A polygon's finding shall carry a position": what it says, by the number beside it
 pub position : (tolerance : ℕ) (points : List Point) (p : Polygon) → Position tolerance points p (finding tolerance points p)
 position = P.position
@@ -149,8 +123,7 @@ pub accepted_report : (t : Tables) → NoneOfThirteen t → report_of t ≡ repo
 unfolding check_number_of element_a_of element_b_of
 accepted_report t n = reports t ∙ (rw (accepted_always t n, none-counted t n))
 
--- "otherwise the first failing one is reported with its element": the lowest polygon with a finding, with the first of 01 to 06, 0E and 0F that
--- fails
+-- "otherwise the first failing one is reported with its element": the lowest polygon with a finding, with the first of 01 to 06 that fails
 pub lowest-polygon : (t : Tables) (done : List Polygon) (p : Polygon) (rest : List Polygon) → t.polygons ≡ done ++ p ∷ rest
     → All (λ (q : Polygon). finding t.tolerance t.points q ≡ Sound) done → is_fault (finding t.tolerance t.points p) ≡ true
     → verdict t ≡ Faulty (length done) (finding t.tolerance t.points p)
@@ -230,7 +203,6 @@ module _ (before : List (List ℕ)) (end : List ℕ) (since : List (List ℕ)) (
   turn_alters_none = corrections_keep edge_list turned_list (loaded_by before) (corrections_of before since)
 
   -- "Each polygon's stamp is the number of the last correction accepted in that span that turned it or moved a point its ring lists, zero if there was none."
-  -- Document 02 (iv): "The stamp counts points of any ring"
   pub stamp : (n : ℕ) → n < length (loaded_by before).polygons → get_or (building_of (held before end since)).stamps n 0 ≡ stamp_of (corrections_of before since) n (get_or (loaded_by before).polygons n (one []))
   stamp = stamp_is before end since s
 
@@ -315,19 +287,16 @@ code_strike_out stream room code room' a b c returned =
     let lean : length (lines l.left) ≤ 1024 = omega (arith, l.no_more) in
     (entry-bytes l.left room code room' returned short lean few).1 ∙ ap (λ (q : List ℕ). q ++ drop (length (answers l.left)) room) (strike_out stream l.left l.its_lines)
 
--- The bytes of a fresh load of the corrected tables: the last answer to them is the fresh report,
+-- The bytes of a fresh load of the corrected tables are a stream that is answered, and its last answer is the fresh report.
 pub fresh_load : (t : Tables) → answers (fresh_stream t) ≡ run nothing (load_lines t) ++ ended (fresh_report t)
 fresh_load = fresh_answers
 
-module _ (before : List (List ℕ)) (end : List ℕ) (since : List (List ℕ)) (s : Span before end since) where
-  -- their lines are no more than loaded the building,
-  pub fresh_lines_few : length (lines (fresh_stream (corrected_by before since))) ≤ length before + 1
-  fresh_lines_few = fresh_no_more before end since s
-
-  -- so they are a stream that is answered where the building's was, of whose lines, at most 1,024, those up to the end of load are `length before + 1`.
-  pub code_fresh : length before < 1024 → (room : List ℕ) (code : ℤ) (room' : List ℕ) → Answers (fresh_stream (corrected_by before since)) room code room' → 33 * (length before + 1) ≤ length room
-      → Stands (load_lines (corrected_by before since)) (fresh_report (corrected_by before since)) room'
-  unfolding fresh_report
-  code_fresh few room code room' returned h =
-      let t = corrected_by before since in
-      entry-line (fresh_stream t) room code room' returned (fresh_bytes before end since s few) (omega (arith, fresh_lines_few)) (omega (arith, fresh_lines_few)) (load_lines t) (encode end_of_load) [] (fresh_lines t)
+pub code_fresh : (before : List (List ℕ)) (end : List ℕ) (since : List (List ℕ)) → Span before end since → (room : List ℕ) (code : ℤ) (room' : List ℕ)
+    → Answers (fresh_stream (corrected_by before since)) room code room' → 33 * 770 ≤ length room
+    → Stands (load_lines (corrected_by before since)) (fresh_report (corrected_by before since)) room'
+unfolding fresh_report
+code_fresh before end since s room code room' returned h =
+    let t = corrected_by before since in
+    let ok = corrected_loadable before end since s in
+    let few : length (lines (fresh_stream t)) ≤ 770 = fresh_few t ok in
+    entry-line (fresh_stream t) room code room' returned (omega (arith, fresh_short t ok)) (omega arith) (omega arith) (load_lines t) (encode end_of_load) [] (fresh_lines t)

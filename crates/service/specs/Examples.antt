@@ -78,33 +78,6 @@ pub shared_stream : answers shared_input ≡ shared_output
 unfolding everything_computes
 shared_stream = refl
 
--- document 02 (iv): 08 is refused before a load, before any polygon of it, for an unknown point, after eight inner rings (an unknown point comes first)
--- and after the load; the polygon's outer ring is empty, and so are its eight others
-abbrev pub inner_input : List ℕ
-unfolding bytes
-inner_input = bytes "08\n010000\n08\n02000000000000000000000000\n03\n080001\n08\n08\n08\n08\n08\n08\n08\n08\n08\n080001\n04\n08\n"
-
-abbrev pub inner_output : List ℕ
-unfolding bytes
-inner_output = bytes "02\n00\n02\n00\n00\n05\n00\n00\n00\n00\n00\n00\n00\n00\n04\n05\n00010000000000010000000000000000\n02\n"
-
-pub inner_stream : answers inner_input ≡ inner_output
-unfolding everything_computes
-inner_stream = refl
-
--- "Courtyard houses": 3 m by 3 m and 1 m high, around a courtyard of 1 m by 1 m
-abbrev pub courtyard_input : List ℕ
-unfolding bytes
-courtyard_input = bytes "010000\n02000000000000000000000000\n0200000BB80000000000000000\n0200000BB800000BB800000000\n020000000000000BB800000000\n02000003E8000003E800000000\n02000007D0000003E800000000\n02000007D0000007D000000000\n02000003E8000007D000000000\n020000000000000000000003E8\n0200000BB800000000000003E8\n0200000BB800000BB8000003E8\n020000000000000BB8000003E8\n02000003E8000003E8000003E8\n02000007D0000003E8000003E8\n02000007D0000007D0000003E8\n02000003E8000007D0000003E8\n0300080009000A000B0008\n08000C000F000E000D000C\n0300000003000200010000\n0800040005000600070004\n0300000001000900080000\n0300010002000A00090001\n0300020003000B000A0002\n03000300000008000B0003\n0300050004000C000D0005\n0300060005000D000E0006\n0300070006000E000F0007\n0300040007000F000C0004\n04\n"
-
-abbrev pub courtyard_output : List ℕ
-unfolding bytes
-courtyard_output = bytes "00\n00\n00\n00\n00\n00\n00\n00\n00\n00\n00\n00\n00\n00\n00\n00\n00\n00\n00\n00\n00\n00\n00\n00\n00\n00\n00\n00\n00\n00000000000000000000000B2D05E000\n"
-
-pub courtyard_stream : answers courtyard_input ≡ courtyard_output
-unfolding everything_computes
-courtyard_stream = refl
-
 -- ---- "Examples at the edges"
 
 abbrev pub place : ℤ → ℤ → ℤ → Point

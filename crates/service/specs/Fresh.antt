@@ -1,6 +1,6 @@
 -- A fresh load of tables: its lines, its bytes, what it answers at its end and what is held then.
-use Rattle.std.specs.Prelude.{ℕ, List, [], ◌∷◌, ◌++◌, map}
-use Rattle.frame.specs.Frame.{begin, point, polygon, end_of_load, inner}
+use Rattle.std.specs.Prelude.{ℕ, List, ◌∷◌, ◌++◌, map, []}
+use Rattle.frame.specs.Frame.{begin, point, polygon, end_of_load}
 use Rattle.frame.specs.Encode.{encode}
 use Rattle.lines.specs.Lines.{joined}
 use Rattle.space.specs.Space.{Point}
@@ -9,26 +9,16 @@ use Rattle.building.specs.Tables.{Tables}
 use Rattle.service.specs.Service.{nothing, step, State}
 use Rattle.service.specs.Stream.{after}
 
--- the line of a point
+-- the line of a point, and of a polygon: each that is held has one ring
 unfoldable pub point_line : Point → List ℕ
 point_line p = encode (point p.x p.y p.z)
 
--- the line of an inner ring
-unfoldable pub inner_line : List ℕ → List ℕ
-inner_line ring = encode (inner ring)
-
--- the lines of a polygon: its outer ring's, and its inner rings' in their order
-unfoldable pub lines_of : Polygon → List (List ℕ)
-lines_of p = encode (polygon p.outer) ∷ map inner_line p.inner
-
--- the lines of some polygons
-unfoldable pub polygon_lines : List Polygon → List (List ℕ)
-polygon_lines [] = []
-polygon_lines (p ∷ ps) = lines_of p ++ polygon_lines ps
+unfoldable pub polygon_line : Polygon → List ℕ
+polygon_line p = encode (polygon p.outer)
 
 -- begin, the points, the polygons; end of load comes last
 unfoldable pub load_lines : Tables → List (List ℕ)
-load_lines t = encode (begin t.tolerance) ∷ (map point_line t.points ++ polygon_lines t.polygons)
+load_lines t = encode (begin t.tolerance) ∷ (map point_line t.points ++ map polygon_line t.polygons)
 
 -- what a fresh load of tables answers at its end
 unfoldable pub fresh_report : Tables → List ℕ

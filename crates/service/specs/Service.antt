@@ -1,13 +1,13 @@
 -- The service: one frame at a time, refused by the first row of the table that holds, or accepted.
 use Rattle.std.specs.Prelude.{ℕ, ◌+◌, Bool, true, false, not, ◌||◌, List, [], ◌∷◌, eqb, leb, ltb, length, get_or}
 use Rattle.whole.specs.Lists.{given, first, any}
-use Rattle.frame.specs.Frame.{Frame, begin, point, polygon, end_of_load, move, turn, question, inner, across, broken, decode}
+use Rattle.frame.specs.Frame.{Frame, begin, point, polygon, end_of_load, move, turn, question, across, broken, decode}
 use Rattle.answer.specs.Answer.{plain, reported, told}
 use Rattle.ring.specs.Polygon.{one}
 use Rattle.polygon.specs.Ring.{finding_number_of, finding_position_of}
 use Rattle.inner.specs.Finding.{finding, part}
 use Rattle.places.specs.Points.{is_far_of, stands, stands_else_of}
-use Rattle.building.specs.Tables.{Tables, Building, begun, with_point, with_polygon, last_polygon, with_inner, entries, loaded, moved, turned}
+use Rattle.building.specs.Tables.{Tables, Building, begun, with_point, with_polygon, entries, loaded, moved, turned}
 use Rattle.building.specs.Report.{report, check_number_of, element_a_of, element_b_of}
 use Rattle.service.specs.declared.Refusal.{Refusal}
 use Rattle.service.specs.declared.Refusal.TheVariants.{Accepted, Malformed, Misplaced, Beyond, Full, Absent, Taken, Late}
@@ -68,12 +68,10 @@ is_malformed end_of_load = false
 is_malformed (move number n x y z) = false
 is_malformed (turn number n) = false
 is_malformed (question n) = false
-is_malformed (inner ring) = false
 is_malformed (across m n) = false
 is_malformed broken = true
 
--- 02: "02, 03 or 04 while no load is running; 05, 06 or 07 while no building is held"; document 02 (iv): "02 also for 08 with no load running or
--- before any polygon of it"; (xiii): "02 with no building held"
+-- 02: "02, 03 or 04 while no load is running; 05, 06 or 07 while no building is held"; document 02 (xiii): "02 with no building held"
 unfoldable pub is_misplaced_of : State → Frame → Bool
 is_misplaced_of st (begin t) = false
 is_misplaced_of st (point x y z) = not (is_loading_of st)
@@ -82,7 +80,6 @@ is_misplaced_of st end_of_load = not (is_loading_of st)
 is_misplaced_of st (move number n x y z) = not (is_holding_of st)
 is_misplaced_of st (turn number n) = not (is_holding_of st)
 is_misplaced_of st (question n) = not (is_holding_of st)
-is_misplaced_of st (inner ring) = not (is_loading_of st) || eqb (length (tables_of st).polygons) 0
 is_misplaced_of st (across m n) = not (is_holding_of st)
 is_misplaced_of st broken = false
 
@@ -95,7 +92,6 @@ is_late b end_of_load = false
 is_late b (move number n x y z) = leb number b.last
 is_late b (turn number n) = leb number b.last
 is_late b (question n) = false
-is_late b (inner ring) = false
 is_late b (across m n) = false
 is_late b broken = false
 
@@ -108,7 +104,6 @@ is_absent t end_of_load = false
 is_absent t (move number n x y z) = leb (length t.points) n
 is_absent t (turn number n) = leb (length t.polygons) n
 is_absent t (question n) = leb (length t.polygons) n
-is_absent t (inner ring) = any (leb (length t.points)) ring
 is_absent t (across m n) = leb (length t.points) m || leb (length t.points) n || eqb m n
 is_absent t broken = false
 
@@ -121,22 +116,20 @@ is_beyond_of end_of_load = false
 is_beyond_of (move number n x y z) = is_far_of (record { x = x; y = y; z = z })
 is_beyond_of (turn number n) = false
 is_beyond_of (question n) = false
-is_beyond_of (inner ring) = false
 is_beyond_of (across m n) = false
 is_beyond_of broken = false
 
--- 04: "the 513th point, the 257th polygon, or entries above 1,024 in all"; document 02 (iv): "04 also for a ninth inner ring"
-unfoldable pub is_full_of : Tables → Frame → Bool
-is_full_of t (begin tolerance) = false
-is_full_of t (point x y z) = leb 512 (length t.points)
-is_full_of t (polygon ring) = leb 256 (length t.polygons) || ltb 1024 (entries t.polygons + length ring)
-is_full_of t end_of_load = false
-is_full_of t (move number n x y z) = false
-is_full_of t (turn number n) = false
-is_full_of t (question n) = false
-is_full_of t (inner ring) = leb 8 (length (last_polygon t).inner) || ltb 1024 (entries t.polygons + length ring)
-is_full_of t (across m n) = false
-is_full_of t broken = false
+-- 04: "the 513th point, the 257th polygon, or entries above 1,024 in all"
+unfoldable pub is_full : Tables → Frame → Bool
+is_full t (begin tolerance) = false
+is_full t (point x y z) = leb 512 (length t.points)
+is_full t (polygon ring) = leb 256 (length t.polygons) || ltb 1024 (entries t.polygons + length ring)
+is_full t end_of_load = false
+is_full t (move number n x y z) = false
+is_full t (turn number n) = false
+is_full t (question n) = false
+is_full t (across m n) = false
+is_full t broken = false
 
 -- 06: "the place is that of another point"
 unfoldable pub is_taken : Tables → Frame → Bool
@@ -147,7 +140,6 @@ is_taken t end_of_load = false
 is_taken t (move number n x y z) = stands_else_of n (record { x = x; y = y; z = z }) t.points
 is_taken t (turn number n) = false
 is_taken t (question n) = false
-is_taken t (inner ring) = false
 is_taken t (across m n) = false
 is_taken t broken = false
 
@@ -160,7 +152,7 @@ refusal st f =
     given (is_late (building_of st) f) Late ∷
     given (is_absent (tables_of st) f) Absent ∷
     given (is_beyond_of f) Beyond ∷
-    given (is_full_of (tables_of st) f) Full ∷
+    given (is_full (tables_of st) f) Full ∷
     given (is_taken (tables_of st) f) Taken ∷
     [])
 
@@ -175,7 +167,6 @@ takes st end_of_load = holding (loaded (tables_of st))
 takes st (move number n x y z) = holding (moved number n (record { x = x; y = y; z = z }) (building_of st))
 takes st (turn number n) = holding (turned number n (building_of st))
 takes st (question n) = st
-takes st (inner ring) = loading (with_inner ring (tables_of st))
 takes st (across m n) = st
 takes st broken = st
 
@@ -208,7 +199,6 @@ answer_to end_of_load st = report_of (tables_of st)
 answer_to (move number n x y z) st = report_of (tables_of st)
 answer_to (turn number n) st = report_of (tables_of st)
 answer_to (question n) st = told_of n (building_of st)
-answer_to (inner ring) st = plain 0
 answer_to (across m n) st = across_of m n (tables_of st)
 answer_to broken st = plain 0
 
@@ -254,5 +244,5 @@ unfoldable pub accepts : State → List ℕ → Bool
 accepts st l = is_accepted_of (refusal st (decode l))
 
 unfoldable pub service_computes : Unit {0}
-unfolding refusal_number_of tables_of building_of is_loading_of is_holding_of is_malformed is_misplaced_of is_late is_absent is_beyond_of is_full_of is_taken refusal takes report_of told_of across_of answer_to outcome step
+unfolding refusal_number_of tables_of building_of is_loading_of is_holding_of is_malformed is_misplaced_of is_late is_absent is_beyond_of is_full is_taken refusal takes report_of told_of across_of answer_to outcome step
 service_computes = tt

@@ -1,6 +1,6 @@
 -- The span from an accepted end of load until the next accepted begin: its corrections, and the corrected tables.
 use Rattle.std.specs.Prelude.{ℕ, ◌≡◌, Bool, true, false, ◌&&◌, List, [], ◌∷◌, ◌++◌, get_or, ℤ}
-use Rattle.frame.specs.Frame.{Frame, begin, point, polygon, end_of_load, move, turn, question, inner, across, broken, decode}
+use Rattle.frame.specs.Frame.{Frame, begin, point, polygon, end_of_load, move, turn, question, across, broken, decode}
 use Rattle.answer.specs.Answer.{told}
 use Rattle.ring.specs.Polygon.{one}
 use Rattle.polygon.specs.Ring.{finding_number_of, finding_position_of}
@@ -20,7 +20,6 @@ is_begin end_of_load = false
 is_begin (move number n x y z) = false
 is_begin (turn number n) = false
 is_begin (question n) = false
-is_begin (inner ring) = false
 is_begin (across m n) = false
 is_begin broken = false
 
@@ -38,7 +37,6 @@ recorded end_of_load h = h
 recorded (move number n x y z) h = C.move number n (record { x = x; y = y; z = z }) ∷ h
 recorded (turn number n) h = C.turn number n ∷ h
 recorded (question n) h = h
-recorded (inner ring) h = h
 recorded (across m n) h = h
 recorded broken h = h
 
@@ -80,7 +78,6 @@ is_correction end_of_load = false
 is_correction (move number n x y z) = true
 is_correction (turn number n) = true
 is_correction (question n) = false
-is_correction (inner ring) = false
 is_correction (across m n) = false
 is_correction broken = false
 

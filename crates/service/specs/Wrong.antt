@@ -2,7 +2,7 @@
 use Rattle.std.specs.Prelude.{ℕ, ◌≡◌, refl, Bool, true, false, cond, ◌&&◌, List, [], ◌∷◌, ◌++◌, eqb, length, take, drop, replicate}
 use Rattle.std.proofs.Common.{sym, ap, ◌∙◌, true≢false}
 use Rattle.lines.specs.Lines.{lines, ended}
-use Rattle.frame.specs.Frame.{Frame, begin, point, polygon, end_of_load, move, turn, question, inner, across, broken, decode}
+use Rattle.frame.specs.Frame.{Frame, begin, point, polygon, end_of_load, move, turn, question, across, broken, decode}
 use Rattle.hex.specs.Hex.{digits}
 use Rattle.service.specs.Service.{State, nothing, is_loading_of, step}
 use Rattle.service.specs.Stream.{Served, served_by, served, Answers}
@@ -26,7 +26,6 @@ is_reported end_of_load = true
 is_reported (move number n x y z) = true
 is_reported (turn number n) = true
 is_reported (question n) = false
-is_reported (inner ring) = false
 is_reported (across m n) = false
 is_reported broken = false
 

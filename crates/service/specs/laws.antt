@@ -6,8 +6,6 @@ pub mod Room
 pub mod History
 pub mod Strike
 pub mod Fresh
-pub mod Rings
-pub mod Inner
 pub mod Span
 pub mod Across
 pub mod TwoUsers

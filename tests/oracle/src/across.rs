@@ -19,8 +19,9 @@ fn same_edge(step: Ends, asked: Ends) -> bool {
 /// "A polygon counts once for each time its rings use the edge": the users in ascending order, each as often as it uses the edge; none
 /// where "two points [...] share no edge". A ring that is short, open or has another finding has edges too.
 pub fn users(tables: &Tables, asked: Ends) -> Vec<usize> {
-    let uses = |ring: &[usize]| edge_steps(ring).into_iter().filter(|&step| same_edge(step, asked)).count();
-    tables.rings().flat_map(|(polygon, ring)| vec![polygon; uses(ring)]).collect()
+    let uses = |ring: &Vec<usize>| edge_steps(ring).into_iter().filter(|&step| same_edge(step, asked)).count();
+    let all = tables.polygons.iter().enumerate();
+    all.flat_map(|(polygon, ring)| vec![polygon; uses(ring)]).collect()
 }
 
 /// "`FFFF` where there is none"

@@ -3,21 +3,14 @@
 use crate::across::users;
 use crate::second_look::Dice;
 use crate::shape::{edges, fails_08, fails_09, fails_0a, Edge};
-use crate::tables::{Polygon, Ring, Tables, ORIGIN};
+use crate::tables::{Tables, ORIGIN};
 use std::collections::BTreeMap;
 
 /// Rings at random over a few points: short, open, with steps to themselves, with edges used again.
 fn rings(dice: &mut Dice, points: usize) -> Tables {
     let most = 1 + dice.below(9);
-    let mut polygons: Vec<Polygon> = vec![];
-    for _ in 0..8 {
-        let ring: Ring = (0..dice.below(most)).map(|_| dice.below(points as u64) as usize).collect();
-        // One ring in four is an inner one of the polygon before it.
-        match polygons.last_mut() {
-            Some(rings) if dice.below(4) == 0 => rings.push(ring),
-            _ => polygons.push(vec![ring]),
-        }
-    }
+    let mut ring = |_| -> Vec<usize> { (0..dice.below(most)).map(|_| dice.below(points as u64) as usize).collect() };
+    let polygons = (0..8).map(&mut ring).collect();
     Tables { tolerance: 0, points: vec![ORIGIN; points], polygons }
 }
 
@@ -29,7 +22,7 @@ fn pairs(points: usize) -> Vec<[usize; 2]> {
 /// The list of the request: each edge "in ascending order with the number of users and the two lowest users", by sorting all steps.
 fn sorted_list(tables: &Tables) -> BTreeMap<Edge, (usize, usize, Option<usize>)> {
     let mut steps = vec![];
-    for (polygon, ring) in tables.rings() {
+    for (polygon, ring) in tables.polygons.iter().enumerate() {
         for at in 1..ring.len() {
             steps.push((ring[at - 1].min(ring[at]), ring[at - 1].max(ring[at]), polygon));
         }
@@ -85,7 +78,7 @@ fn the_edges_named_by_checks() {
     for round in 0..4_000 {
         let mut tables = rings(&mut dice, 3 + round % 6);
         // Those checks come after 03, behind which there is no step to itself.
-        tables.polygons.iter_mut().flatten().for_each(|ring| ring.dedup());
+        tables.polygons.iter_mut().for_each(|ring| ring.dedup());
         let count = |a: usize, b: usize| users(&tables, [a, b]).len();
         let least = |is: fn(usize) -> bool| pairs(tables.points.len()).into_iter().find(|&[a, b]| a < b && is(count(a, b)));
         let named = [fails_08(&tables), fails_09(&tables)].map(|failure| failure.map(|(_, a, b)| [a, b]));
@@ -107,7 +100,7 @@ fn turns_alter_no_users() {
     for round in 0..3_000 {
         let tables = rings(&mut dice, 2 + round % 7);
         let mut turned = tables.clone();
-        for ring in turned.polygons.iter_mut().flatten() {
+        for ring in &mut turned.polygons {
             if dice.below(2) == 0 {
                 ring.reverse();
             }
@@ -133,7 +126,7 @@ fn uses_at_a_point() {
             };
             let others = (0..tables.points.len()).filter(|&other| other != point);
             let uses: usize = others.map(|other| users(&tables, [point, other]).len()).sum();
-            assert_eq!(uses, tables.rings().map(|(_, ring)| ends(ring)).sum::<usize>(), "{point} of {tables:?}");
+            assert_eq!(uses, tables.polygons.iter().map(ends).sum::<usize>(), "{point} of {tables:?}");
         }
     }
 }

@@ -1,7 +1,7 @@
 //! The examples of document 02's request (xiii) and of its reading.
 
 use crate::across::{across_line, users};
-use crate::examples::{ask, one_ring_each, TETRAHEDRON};
+use crate::examples::{ask, TETRAHEDRON};
 use crate::tables::{Tables, ORIGIN};
 
 /// The six edges of document 01's tetrahedron, some from the larger number to the smaller, and what they answer.
@@ -16,7 +16,7 @@ fn ask_tetrahedron(lines: &str) -> Vec<String> {
 
 /// Rings over points whose places do not matter.
 fn over(points: usize, polygons: &[&[usize]]) -> Tables {
-    Tables { tolerance: 0, points: vec![ORIGIN; points], polygons: polygons.iter().map(|ring| vec![ring.to_vec()]).collect() }
+    Tables { tolerance: 0, points: vec![ORIGIN; points], polygons: polygons.iter().map(|ring| ring.to_vec()).collect() }
 }
 
 #[test]
@@ -111,7 +111,7 @@ fn short_open_and_empty_rings() {
 fn the_highest_numbers() {
     let mut rings: Vec<Vec<usize>> = vec![vec![]; 256];
     rings[255] = vec![511, 510];
-    let tables = Tables { tolerance: 0, points: vec![ORIGIN; 512], polygons: one_ring_each(rings) };
+    let tables = Tables { tolerance: 0, points: vec![ORIGIN; 512], polygons: rings };
     assert_eq!(across_line(&tables, [510, 511]), "00000100FFFFFF");
     // As many uses as there can be: eight rings of 128 entries.
     let there_and_back: Vec<usize> = (0..128).map(|k| k % 2).collect();

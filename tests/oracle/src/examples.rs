@@ -1,9 +1,9 @@
 //! The examples of document 01, those of its "Run" line, and those of document 02's requests.
 
 use crate::answer;
-use crate::polygon::{finding, position};
 use crate::report::{report, Report};
-use crate::tables::{Place, Polygon, Ring, Tables};
+use crate::ring::{finding, position};
+use crate::tables::{Place, Tables};
 
 pub const TETRAHEDRON: &str = "010000
 02000000000000000000000000
@@ -27,11 +27,6 @@ pub fn ask(stream: &str) -> Vec<String> {
     text.lines().map(String::from).collect()
 }
 
-/// Polygons of one ring each.
-pub fn one_ring_each(rings: Vec<Ring>) -> Vec<Polygon> {
-    rings.into_iter().map(|ring| vec![ring]).collect()
-}
-
 fn place(x: i128, y: i128, z: i128) -> Place {
     Place { x, y, z }
 }
@@ -39,7 +34,7 @@ fn place(x: i128, y: i128, z: i128) -> Place {
 /// The finding of a ring and its position.
 fn at(tolerance: i128, corners: &[(i128, i128, i128)], entries: &[usize]) -> (u8, usize) {
     let points = corners.iter().map(|&(x, y, z)| place(x, y, z)).collect();
-    let tables = Tables { tolerance, points, polygons: vec![vec![entries.to_vec()]] };
+    let tables = Tables { tolerance, points, polygons: vec![entries.to_vec()] };
     (finding(&tables, 0), position(&tables, 0))
 }
 
@@ -51,7 +46,7 @@ fn tetrahedron() -> Tables {
     Tables {
         tolerance: 0,
         points: vec![place(0, 0, 0), place(1000, 0, 0), place(0, 1000, 0), place(0, 0, 1000)],
-        polygons: one_ring_each(vec![vec![0, 2, 1, 0], vec![0, 1, 3, 0], vec![0, 3, 2, 0], vec![1, 2, 3, 1]]),
+        polygons: vec![vec![0, 2, 1, 0], vec![0, 1, 3, 0], vec![0, 3, 2, 0], vec![1, 2, 3, 1]],
     }
 }
 
@@ -192,7 +187,7 @@ fn the_tetrahedron() {
     let expected = Report { check: 0, a: 0, b: 0, faulty: 0, six_volume: 1_000_000_000 };
     assert_eq!(report(&tetrahedron()), expected);
     let mut turned = tetrahedron();
-    turned.polygons.iter_mut().flatten().for_each(|ring| ring.reverse());
+    turned.polygons.iter_mut().for_each(|ring| ring.reverse());
     assert_eq!(report(&turned), Report { check: 0x0D, six_volume: -1_000_000_000, ..expected });
 }
 
@@ -205,7 +200,7 @@ fn too_few_polygons() {
     three.polygons.clear();
     assert_eq!(report(&three), Report { check: 0x07, a: 0, b: 0, faulty: 0, six_volume: 0 });
     // A finding comes before the count of polygons.
-    three.polygons = one_ring_each(vec![vec![]; 3]);
+    three.polygons = vec![vec![]; 3];
     assert_eq!(report(&three), Report { check: 0x01, a: 0, b: 0, faulty: 3, six_volume: 0 });
 }
 

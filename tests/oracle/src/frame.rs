@@ -1,19 +1,18 @@
 //! Frames: what a line says, if it says anything.
 
 use crate::across::Ends;
-use crate::tables::{Place, Ring};
+use crate::tables::Place;
 
 /// A line that the frame table has.
 #[derive(Clone, Debug, PartialEq, Eq)]
 pub enum Frame {
     Begin { tolerance: i128 },
     Point { place: Place },
-    Polygon { entries: Ring },
+    Polygon { entries: Vec<usize> },
     End,
     Move { number: i128, point: usize, place: Place },
     Turn { number: i128, polygon: usize },
     Question { polygon: usize },
-    Inner { entries: Ring },
     Across { ends: Ends },
 }
 
@@ -67,10 +66,6 @@ pub fn decode(line: &[u8]) -> Option<Frame> {
         }
         (6, 14) => Some(Frame::Turn { number: unsigned(&fields[0..8]), polygon: element(&fields[8..12]) }),
         (7, 6) => Some(Frame::Question { polygon: element(fields) }),
-        // Document 02, (iv): "Frame 08 adds an inner ring, with fields as in 03".
-        (8, length) if length <= 514 && (length - 2) % 4 == 0 => {
-            Some(Frame::Inner { entries: fields.chunks(4).map(element).collect() })
-        }
         // Document 02, (xiii): "Frame 0C asks for two point numbers (4 each)".
         (0x0C, 10) => Some(Frame::Across { ends: [element(&fields[0..4]), element(&fields[4..8])] }),
         _ => None,

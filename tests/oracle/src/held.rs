@@ -3,7 +3,7 @@
 use crate::across::across_line;
 use crate::frame::Frame;
 use crate::report::{question_line, report, report_line};
-use crate::tables::{Place, Polygon, Tables};
+use crate::tables::{Place, Tables};
 
 /// A correction that was accepted.
 #[derive(Clone, Debug, PartialEq, Eq)]
@@ -37,15 +37,14 @@ fn present_place(loaded: &Tables, history: &[Correction], asked: usize) -> Place
     moves.into_iter().next().unwrap_or(loaded.points[asked])
 }
 
-/// "a ring is the reverse of the loaded one exactly when an odd number of accepted turns named it". Document 02, (iv): "Turn reverses
-/// every ring", each where it stands.
-fn present_polygon(loaded: &Tables, history: &[Correction], asked: usize) -> Polygon {
+/// "a ring is the reverse of the loaded one exactly when an odd number of accepted turns named it"
+fn present_ring(loaded: &Tables, history: &[Correction], asked: usize) -> Vec<usize> {
     let names = |correction: &&Correction| matches!(correction, Correction::Turn { polygon, .. } if *polygon == asked);
-    let mut rings = loaded.polygons[asked].clone();
+    let mut ring = loaded.polygons[asked].clone();
     if history.iter().filter(names).count() % 2 == 1 {
-        rings.iter_mut().for_each(|ring| ring.reverse());
+        ring.reverse();
     }
-    rings
+    ring
 }
 
 /// "The corrected tables of demand 3 are told from the history since then: [...] order and tolerance are those loaded."
@@ -53,15 +52,15 @@ pub fn corrected(loaded: &Tables, history: &[Correction]) -> Tables {
     Tables {
         tolerance: loaded.tolerance,
         points: (0..loaded.points.len()).map(|point| present_place(loaded, history, point)).collect(),
-        polygons: (0..loaded.polygons.len()).map(|polygon| present_polygon(loaded, history, polygon)).collect(),
+        polygons: (0..loaded.polygons.len()).map(|polygon| present_ring(loaded, history, polygon)).collect(),
     }
 }
 
 /// "holds it with last correction number 0 and all stamps 0": the stamp is the number of the last accepted correction that turned
-/// the polygon or moved a point that its ring lists. Document 02, (iv): "The stamp counts points of any ring".
+/// the polygon or moved a point that its ring lists.
 fn stamp(loaded: &Tables, history: &[Correction], asked: usize) -> i128 {
     let touches = |correction: &&Correction| match correction {
-        Correction::Move { point, .. } => loaded.lists(asked, *point),
+        Correction::Move { point, .. } => loaded.polygons[asked].contains(point),
         Correction::Turn { polygon, .. } => *polygon == asked,
     };
     history.iter().rev().find(touches).map_or(0, Correction::number)
@@ -87,11 +86,10 @@ impl State {
 }
 
 /// "02, 03 or 04 while no load is running; 05, 06 or 07 while no building is held"; document 02, (xiii), of 0C: "02 with no building
-/// held"; (iv): "02 also for 08 with no load running or before any polygon of it". By kind, since a broken frame has one too.
+/// held". By kind, since a broken frame has one too.
 pub fn refused_02_kind(state: &State, kind: u8) -> bool {
     match kind {
         2..=4 => !matches!(state, State::Loading(_)),
-        8 => !matches!(state, State::Loading(tables) if !tables.polygons.is_empty()),
         5..=7 | 0x0C => !matches!(state, State::Held { .. }),
         _ => false,
     }
@@ -107,7 +105,6 @@ pub fn kind(frame: &Frame) -> u8 {
         Frame::Move { .. } => 5,
         Frame::Turn { .. } => 6,
         Frame::Question { .. } => 7,
-        Frame::Inner { .. } => 8,
         Frame::Across { .. } => 0x0C,
     }
 }
@@ -123,7 +120,7 @@ fn refused_07(state: &State, frame: &Frame) -> bool {
 /// "a point or polygon number not below the present count"; document 02, (xiii): "05 for an unknown point; two equal numbers also 05."
 fn refused_05(tables: &Tables, frame: &Frame) -> bool {
     match frame {
-        Frame::Polygon { entries } | Frame::Inner { entries } => entries.iter().any(|&point| point >= tables.points.len()),
+        Frame::Polygon { entries } => entries.iter().any(|&point| point >= tables.points.len()),
         Frame::Move { point, .. } => *point >= tables.points.len(),
         Frame::Turn { polygon, .. } | Frame::Question { polygon } => *polygon >= tables.polygons.len(),
         Frame::Across { ends } => ends[0] == ends[1] || ends.iter().any(|&point| point >= tables.points.len()),
@@ -145,16 +142,11 @@ fn refused_03(frame: &Frame) -> bool {
     }
 }
 
-/// "the 513th point, the 257th polygon, or entries above 1,024 in all". Document 02, (iv): "at most 8 inner rings each"; "04 also for a
-/// ninth inner ring".
+/// "the 513th point, the 257th polygon, or entries above 1,024 in all"
 fn refused_04(tables: &Tables, frame: &Frame) -> bool {
     match frame {
         Frame::Point { .. } => tables.points.len() + 1 > 512,
         Frame::Polygon { entries } => tables.polygons.len() + 1 > 256 || tables.entries() + entries.len() > 1_024,
-        Frame::Inner { entries } => {
-            let inner = tables.polygons.last().map_or(0, |rings| rings.len() - 1);
-            inner + 1 > 8 || tables.entries() + entries.len() > 1_024
-        }
         _ => false,
     }
 }
@@ -200,13 +192,7 @@ fn accept(state: &mut State, frame: Frame) -> String {
         }
         Frame::Polygon { entries } => {
             let State::Loading(tables) = state else { unreachable!("row 02") };
-            tables.polygons.push(vec![entries]);
-            "00".to_string()
-        }
-        // Document 02, (iv): "adds an inner ring [...] to the last accepted polygon of a running load".
-        Frame::Inner { entries } => {
-            let State::Loading(tables) = state else { unreachable!("row 02") };
-            tables.polygons.last_mut().expect("row 02").push(entries);
+            tables.polygons.push(entries);
             "00".to_string()
         }
         // "End of load ends the load, checks the building and holds it with last correction number 0 and all stamps 0."

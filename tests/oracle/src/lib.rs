@@ -7,8 +7,6 @@
 pub mod across;
 pub mod frame;
 pub mod held;
-pub mod inner;
-pub mod polygon;
 pub mod report;
 pub mod ring;
 pub mod shape;
@@ -23,9 +21,5 @@ mod across_again;
 mod across_examples;
 #[cfg(test)]
 mod examples;
-#[cfg(test)]
-mod inner_again;
-#[cfg(test)]
-mod inner_examples;
 #[cfg(test)]
 mod second_look;

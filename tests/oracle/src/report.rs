@@ -1,6 +1,6 @@
 //! The report and the answer to a question.
 
-use crate::polygon::{finding, part, position};
+use crate::ring::{finding, part, position};
 use crate::shape::failure;
 use crate::tables::Tables;
 
@@ -16,7 +16,7 @@ pub struct Report {
 
 /// "The building's six-volume is the sum of the parts, whether it is accepted or not."
 pub fn six_volume(tables: &Tables) -> i128 {
-    (0..tables.polygons.len()).map(|polygon| part(tables, polygon)).sum()
+    (0..tables.polygons.len()).map(|polygon| part(&tables.places(polygon))).sum()
 }
 
 /// The finding of every polygon, in order.
@@ -53,6 +53,6 @@ pub fn report_line(report: Report) -> String {
 pub fn question_line(tables: &Tables, polygon: usize, stamp: i128) -> String {
     let finding = finding(tables, polygon);
     let position = position(tables, polygon);
-    let part = part(tables, polygon);
+    let part = part(&tables.places(polygon));
     format!("00{finding:02X}{position:04X}{stamp:08X}{}", signed_16(part))
 }

@@ -1,10 +1,12 @@
-//! Checks 01 to 05, on one ring, where in the ring they fail, check 06, and the ring's part of the six-volume. Check 06 is that of
-//! document 02, request (ii), the position that of request (iii).
+//! Checks 01 to 06, on one polygon, where in the ring they fail, and its part of the six-volume. Check 06 is that of document 02,
+//! request (ii), the position that of request (iii).
 
-use crate::tables::{Place, ORIGIN};
+use crate::tables::{Place, Tables, ORIGIN};
 
-/// Document 02, (iv): "Each ring is tested by 01 to 05 with its own normal": the first of them that fails, 0 when none does.
-pub fn finding(ring: &[usize], places: &[Place]) -> u8 {
+/// "A polygon's finding is the first of checks 01 to 06 that fails." 0 when none does.
+pub fn finding(tables: &Tables, polygon: usize) -> u8 {
+    let ring = &tables.polygons[polygon];
+    let places = tables.places(polygon);
     if fails_01(ring) {
         return 1;
     }
@@ -14,22 +16,28 @@ pub fn finding(ring: &[usize], places: &[Place]) -> u8 {
     if fails_03(ring) {
         return 3;
     }
-    if fails_04(places) {
+    if fails_04(&places) {
         return 4;
     }
-    if fails_05(places) {
+    if fails_05(&places) {
         return 5;
+    }
+    if fails_06(&places, tables.tolerance) {
+        return 6;
     }
     0
 }
 
-/// Document 02, (iii): "A polygon's finding shall carry a position: for 03 [...]; for 05 [...]; [...] else 0." Counted in the ring.
-pub fn position(ring: &[usize], places: &[Place]) -> Option<usize> {
-    match finding(ring, places) {
-        3 => Some(repeated_entry(ring).expect("some number stands twice")),
-        5 => Some(meeting_edge(places).expect("some edges meet")),
-        _ => None,
-    }
+/// Document 02, (iii): "A polygon's finding shall carry a position: for 03 [...]; for 05 [...]; for 06 [...]; else 0."
+pub fn position(tables: &Tables, polygon: usize) -> usize {
+    let places = tables.places(polygon);
+    let found = match finding(tables, polygon) {
+        3 => repeated_entry(&tables.polygons[polygon]),
+        5 => meeting_edge(&places),
+        6 => failing_entry(&places, tables.tolerance),
+        _ => Some(0),
+    };
+    found.expect("where a check fails some entry or edge fails it")
 }
 
 /// "the ring has fewer than 4 entries"
@@ -92,7 +100,7 @@ fn area(a: Flat, b: Flat, c: Flat) -> i128 {
 }
 
 /// Whether c is one of the places of the segment from a to b, its ends included (a and b may be one place).
-pub fn on_segment(a: Flat, b: Flat, c: Flat) -> bool {
+fn on_segment(a: Flat, b: Flat, c: Flat) -> bool {
     let between = |p: i128, q: i128, r: i128| p.min(q) <= r && r <= p.max(q);
     area(a, b, c) == 0 && between(a.0, b.0, c.0) && between(a.1, b.1, c.1)
 }
@@ -159,17 +167,16 @@ fn exceeds(normal: Place, way: Place, tolerance: i128) -> bool {
     along * along > square_of_reach(normal, tolerance)
 }
 
-/// Check 06: it does "for some point p". Document 02, (iv): "Then 06 is taken for all points with the outer ring's normal and first
-/// point": of a polygon of one ring the entries are those of that ring.
-pub fn fails_06(outer: &[Place], entries: &[Place], tolerance: i128) -> bool {
-    let normal = normal(outer);
-    entries.iter().any(|place| exceeds(normal, place.minus(outer[0]), tolerance))
+/// Check 06: it does "for some point p".
+pub fn fails_06(places: &[Place], tolerance: i128) -> bool {
+    let normal = normal(places);
+    places.iter().any(|place| exceeds(normal, place.minus(places[0]), tolerance))
 }
 
 /// "for 06 the least failing entry index"
-pub fn failing_entry(outer: &[Place], entries: &[Place], tolerance: i128) -> Option<usize> {
-    let normal = normal(outer);
-    entries.iter().position(|place| exceeds(normal, place.minus(outer[0]), tolerance))
+pub fn failing_entry(places: &[Place], tolerance: i128) -> Option<usize> {
+    let normal = normal(places);
+    places.iter().position(|place| exceeds(normal, place.minus(places[0]), tolerance))
 }
 
 /// "the determinant of first, p, q, the three points taken as three rows of three numbers"

@@ -1,10 +1,8 @@
 //! The geometry and the reachability of the oracle once more, by other means, on seeded random input.
 
-use crate::examples::one_ring_each;
 use crate::held::{corrected, Correction};
-use crate::polygon::{self, finding};
 use crate::ring::{failing_entry, meeting_edge, repeated_entry};
-use crate::ring::{fails_03, fails_05, fails_06, largest_size, normal, part, share_a_point, share_more_than_end, Flat};
+use crate::ring::{fails_03, fails_05, fails_06, finding, largest_size, normal, part, share_a_point, share_more_than_end, Flat};
 use crate::shape::{edges, fails_0b, fails_0c};
 use crate::tables::{Place, Tables, ORIGIN};
 use std::collections::{BTreeMap, BTreeSet, HashSet};
@@ -18,15 +16,15 @@ impl Dice {
         (self.0 >> 33) % bound
     }
 
-    pub fn within(&mut self, size: i128) -> i128 {
+    fn within(&mut self, size: i128) -> i128 {
         self.below(2 * size as u64 + 1) as i128 - size
     }
 
-    pub fn flat(&mut self, size: i128) -> Flat {
+    fn flat(&mut self, size: i128) -> Flat {
         (self.within(size), self.within(size))
     }
 
-    pub fn place(&mut self, size: i128) -> Place {
+    fn place(&mut self, size: i128) -> Place {
         Place { x: self.within(size), y: self.within(size), z: self.within(size) }
     }
 }
@@ -67,14 +65,14 @@ fn dot(a: Flat, b: Flat) -> i128 {
 
 /// What two closed segments have in common.
 #[derive(Debug, PartialEq, Eq)]
-pub enum Common {
+enum Common {
     Nothing,
     OnePlace,
     More,
 }
 
 /// Two segments a + t(b - a) and c + u(d - c), t and u from 0 to 1, solved in fractions.
-pub fn common(a: Flat, b: Flat, c: Flat, d: Flat) -> Common {
+fn common(a: Flat, b: Flat, c: Flat, d: Flat) -> Common {
     let (along, other, gap) = (minus(b, a), minus(d, c), minus(c, a));
     let divisor = cross(along, other);
     if divisor != 0 {
@@ -254,10 +252,10 @@ fn check_06_again() {
         let Some(mut places) = ring_for_05(&mut dice, size, corners) else { continue };
         // A tolerance of about the ring's size, where both answers come.
         let tolerance = dice.below(size as u64).min(1_000) as i128;
-        let fails = fails_06(&places, &places, tolerance);
+        let fails = fails_06(&places, tolerance);
         let failing = failing_entries_again(&places, tolerance);
         assert_eq!(fails, !failing.is_empty(), "{places:?} at {tolerance}");
-        assert_eq!(failing_entry(&places, &places, tolerance), failing.first().copied(), "{places:?} at {tolerance}");
+        assert_eq!(failing_entry(&places, tolerance), failing.first().copied(), "{places:?} at {tolerance}");
         later += usize::from(failing.first().is_some_and(|&entry| entry > 1));
         let failed = failed_06_along_an_axis(&places, tolerance);
         assert!(failed || !fails, "the true distance is never the longer one: {places:?} at {tolerance}");
@@ -265,11 +263,7 @@ fn check_06_again() {
         forgiven += usize::from(failed && !fails);
         // Turned, entry i is the one with as many behind it as it had before it.
         places.reverse();
-        assert_eq!(
-            failing_entry(&places, &places, tolerance),
-            failing.last().map(|entry| corners - entry),
-            "{places:?} at {tolerance}"
-        );
+        assert_eq!(failing_entry(&places, tolerance), failing.last().map(|entry| corners - entry), "{places:?} at {tolerance}");
     }
     assert!(seen[0] > 10_000 && seen[1] > 10_000 && forgiven > 5_000 && later > 5_000, "{seen:?} {forgiven} {later}");
 }
@@ -311,10 +305,10 @@ fn a_turn_keeps_the_finding_and_negates_a_closed_part() {
         }
         let turned: Vec<usize> = ring.iter().rev().copied().collect();
         let closed = ring.first() == ring.last();
-        let tables = Tables { tolerance: dice.below(4) as i128, points, polygons: one_ring_each(vec![ring, turned]) };
+        let tables = Tables { tolerance: dice.below(4) as i128, points, polygons: vec![ring, turned] };
         assert_eq!(finding(&tables, 0), finding(&tables, 1));
         if closed {
-            assert_eq!(polygon::part(&tables, 0), -polygon::part(&tables, 1));
+            assert_eq!(part(&tables.places(0)), -part(&tables.places(1)));
         }
     }
 }
@@ -358,7 +352,9 @@ impl Union {
 fn joined(tables: &Tables, point: Option<usize>) -> Union {
     let mut union = Union((0..tables.polygons.len()).collect());
     let sides: Vec<(usize, [usize; 2])> = tables
-        .rings()
+        .polygons
+        .iter()
+        .enumerate()
         .flat_map(|(polygon, ring)| ring.windows(2).map(move |two| (polygon, [two[0], two[1]])))
         .filter(|(_, ends)| point.is_none_or(|point| ends.contains(&point)))
         .collect();
@@ -379,7 +375,7 @@ fn assert_joined(tables: &Tables) -> [bool; 2] {
     assert_eq!(fails_0b(tables).map(|failure| failure.1), apart);
     let pinched = (0..tables.points.len()).find(|&point| {
         let union = joined(tables, Some(point));
-        let there = (0..tables.polygons.len()).filter(|&polygon| tables.lists(polygon, point));
+        let there = (0..tables.polygons.len()).filter(|&polygon| tables.polygons[polygon].contains(&point));
         let roots: Vec<usize> = there.map(|polygon| union.root(polygon)).collect();
         roots.iter().any(|&root| root != roots[0])
     });
@@ -400,8 +396,7 @@ fn reachability_by_joined_sets() {
                 ring
             })
             .collect();
-        let [apart, pinched] =
-            assert_joined(&Tables { tolerance: 0, points: vec![ORIGIN; points as usize], polygons: one_ring_each(polygons) });
+        let [apart, pinched] = assert_joined(&Tables { tolerance: 0, points: vec![ORIGIN; points as usize], polygons });
         seen[usize::from(apart) * 2 + usize::from(pinched)] += 1;
     }
     assert!(seen.iter().all(|&count| count > 100), "{seen:?}");
@@ -440,8 +435,7 @@ fn reachability_of_many_polygons_by_joined_sets() {
         }
         polygons.iter_mut().flatten().for_each(|entry: &mut usize| *entry = numbers[*entry]);
         let polygons = shuffled(&mut dice, polygons);
-        let [apart, pinched] =
-            assert_joined(&Tables { tolerance: 0, points: vec![ORIGIN; points], polygons: one_ring_each(polygons) });
+        let [apart, pinched] = assert_joined(&Tables { tolerance: 0, points: vec![ORIGIN; points], polygons });
         seen[usize::from(apart) * 2 + usize::from(pinched)] += 1;
     }
     assert!(seen.iter().all(|&count| count > 5), "{seen:?}");
@@ -453,12 +447,12 @@ fn edges_are_counted_once_a_use() {
     for _ in 0..2_000 {
         let polygons: Vec<Vec<usize>> =
             (0..dice.below(9)).map(|_| (0..dice.below(7)).map(|_| dice.below(6) as usize).collect()).collect();
-        let tables = Tables { tolerance: 0, points: vec![ORIGIN; 6], polygons: one_ring_each(polygons) };
+        let tables = Tables { tolerance: 0, points: vec![ORIGIN; 6], polygons };
         let all = edges(&tables);
         for a in 0..6 {
             for b in a..6 {
                 let count = |p: usize, q: usize| -> usize {
-                    tables.rings().map(|(_, ring)| ring.windows(2).filter(|two| *two == [p, q]).count()).sum()
+                    tables.polygons.iter().map(|ring| ring.windows(2).filter(|two| *two == [p, q]).count()).sum()
                 };
                 let uses = all.get(&(a, b)).map_or(0, Vec::len);
                 let upward = all.get(&(a, b)).map_or(0, |uses| uses.iter().filter(|each| each.upward).count());
@@ -476,9 +470,7 @@ fn the_corrected_tables_step_by_step() {
         let loaded = Tables {
             tolerance: 3,
             points: (0..5).map(|_| dice.place(9)).collect(),
-            polygons: (0..4)
-                .map(|_| (0..1 + dice.below(3)).map(|_| (0..dice.below(6)).map(|_| dice.below(5) as usize).collect()).collect())
-                .collect(),
+            polygons: (0..4).map(|_| (0..dice.below(6)).map(|_| dice.below(5) as usize).collect()).collect(),
         };
         let (mut stepwise, mut history) = (loaded.clone(), Vec::new());
         for number in 1..20 {
@@ -488,7 +480,7 @@ fn the_corrected_tables_step_by_step() {
                 history.push(Correction::Move { number, point, place });
             } else {
                 let polygon = dice.below(4) as usize;
-                stepwise.polygons[polygon].iter_mut().for_each(|ring| ring.reverse());
+                stepwise.polygons[polygon].reverse();
                 history.push(Correction::Turn { number, polygon });
             }
             assert_eq!(corrected(&loaded, &history), stepwise);

@@ -17,8 +17,7 @@ pub type Edge = (usize, usize);
 /// Every edge with all its uses, in the order "least a, then least b".
 pub fn edges(tables: &Tables) -> BTreeMap<Edge, Vec<Use>> {
     let mut all: BTreeMap<Edge, Vec<Use>> = BTreeMap::new();
-    // Document 02, (iv): "Edges of all rings count alike."
-    for (polygon, ring) in tables.rings() {
+    for (polygon, ring) in tables.polygons.iter().enumerate() {
         for two in ring.windows(2) {
             let edge = (two[0].min(two[1]), two[0].max(two[1]));
             all.entry(edge).or_default().push(Use { polygon, upward: two[0] < two[1] });
@@ -103,7 +102,7 @@ pub fn fails_0c(tables: &Tables) -> Option<Failure> {
 
 /// Whether the polygons at a point are all linked across edges that end at it (so too where no polygon is).
 pub fn linked_at(edges: &BTreeMap<Edge, Vec<Use>>, tables: &Tables, point: usize) -> bool {
-    let there: Vec<usize> = (0..tables.polygons.len()).filter(|&polygon| tables.lists(polygon, point)).collect();
+    let there: Vec<usize> = (0..tables.polygons.len()).filter(|&polygon| tables.polygons[polygon].contains(&point)).collect();
     let Some(&first) = there.first() else { return true };
     let ends_here: BTreeMap<Edge, Vec<Use>> =
         edges.iter().filter(|((a, b), _)| *a == point || *b == point).map(|(edge, uses)| (*edge, uses.clone())).collect();

@@ -1,4 +1,4 @@
-//! One building: points, polygons of one ring or more, one tolerance.
+//! One building: points, polygons of one ring each, one tolerance.
 
 /// A place in mm, or a difference of two places.
 #[derive(Clone, Copy, Debug, PartialEq, Eq)]
@@ -32,43 +32,22 @@ impl Place {
 
 pub const ORIGIN: Place = Place { x: 0, y: 0, z: 0 };
 
-/// A ring is its list of point numbers.
-pub type Ring = Vec<usize>;
-
-/// Document 02, (iv): "A polygon becomes a list of rings", the outer one and then the inner ones; it has at least the outer one.
-pub type Polygon = Vec<Ring>;
-
-/// "One building is held at a time: points, polygons [...], one tolerance."
+/// "One building is held at a time: points, polygons of one ring each, one tolerance." A ring is its list of point numbers.
 #[derive(Clone, Debug, Default, PartialEq, Eq)]
 pub struct Tables {
     pub tolerance: i128,
     pub points: Vec<Place>,
-    pub polygons: Vec<Polygon>,
+    pub polygons: Vec<Vec<usize>>,
 }
 
 impl Tables {
-    /// The places of a ring's entries, in order.
-    pub fn places(&self, ring: &[usize]) -> Vec<Place> {
-        ring.iter().map(|&number| self.points[number]).collect()
-    }
-
-    /// The places of the entries of each ring of a polygon.
-    pub fn places_of(&self, polygon: usize) -> Vec<Vec<Place>> {
-        self.polygons[polygon].iter().map(|ring| self.places(ring)).collect()
-    }
-
-    /// All rings in order, each with the number of its polygon.
-    pub fn rings(&self) -> impl Iterator<Item = (usize, &Ring)> {
-        self.polygons.iter().enumerate().flat_map(|(polygon, rings)| rings.iter().map(move |ring| (polygon, ring)))
-    }
-
-    /// Whether some ring of a polygon lists a point.
-    pub fn lists(&self, polygon: usize, point: usize) -> bool {
-        self.polygons[polygon].iter().any(|ring| ring.contains(&point))
+    /// The places of a polygon's entries, in order.
+    pub fn places(&self, polygon: usize) -> Vec<Place> {
+        self.polygons[polygon].iter().map(|&number| self.points[number]).collect()
     }
 
     /// "entries [...] in all rings"
     pub fn entries(&self) -> usize {
-        self.rings().map(|(_, ring)| ring.len()).sum()
+        self.polygons.iter().map(|ring| ring.len()).sum()
     }
 }

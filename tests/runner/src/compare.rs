@@ -5,7 +5,7 @@ use crate::prng::Dice;
 use crate::product::{Lent, Subject};
 use oracle::held::{step, State};
 use oracle::stream::{lines, whole_stream_refusal};
-use oracle::tables::{Ring, Tables};
+use oracle::tables::Tables;
 use std::time::{Duration, Instant};
 
 /// At least so many bytes before and after the lent room have to stay as they are.
@@ -180,18 +180,16 @@ fn ends_exchanged(subject: Subject, stream: &[u8], answers: &[u8], dice: &mut Di
     expect(subject, stream, 33 * frames.len(), &Ok(answers.to_vec()), dice).map_err(|why| format!("ends exchanged: {why}"))
 }
 
-/// The frames that load these tables: each polygon's outer ring, then its inner ones.
+/// The frames that load these tables.
 fn load_frames(tables: &Tables) -> String {
     let mut frames = format!("01{:04X}\n", tables.tolerance);
     for place in &tables.points {
         frames += &format!("02{:08X}{:08X}{:08X}\n", place.x as i32, place.y as i32, place.z as i32);
     }
-    for rings in &tables.polygons {
-        for (at, ring) in rings.iter().enumerate() {
-            frames += if at == 0 { "03" } else { "08" };
-            ring.iter().for_each(|entry| frames += &format!("{entry:04X}"));
-            frames += "\n";
-        }
+    for ring in &tables.polygons {
+        frames += "03";
+        ring.iter().for_each(|entry| frames += &format!("{entry:04X}"));
+        frames += "\n";
     }
     frames + "04\n"
 }
@@ -202,8 +200,7 @@ fn some_ends(tables: &Tables, dice: &mut Dice) -> [usize; 2] {
     if dice.once_in(4) {
         return any;
     }
-    let rings: Vec<Ring> = tables.rings().map(|(_, ring)| ring.clone()).collect();
-    across::step(dice, &rings).unwrap_or(any)
+    across::step(dice, &tables.polygons).unwrap_or(any)
 }
 
 /// Demand 3: the report after an accepted correction is the one that a fresh load of the corrected tables gives, and so are finding,
@@ -219,7 +216,7 @@ fn fresh_load(subject: Subject, line: usize, answer: &str, state: &State, dice: 
     let [a, b] = some_ends(&tables, dice);
     let (edge, from_the_other) = (format!("0C{a:04X}{b:04X}"), format!("0C{b:04X}{a:04X}"));
     let across = step(&mut state.clone(), edge.as_bytes());
-    let loads = 1 + tables.points.len() + tables.rings().count();
+    let loads = 1 + tables.points.len() + tables.polygons.len();
     let answers = "00\n".repeat(loads) + &format!("{answer}\n{asked}\n{across}\n{across}\n");
     let stream = load_frames(&tables) + &format!("{question}\n{edge}\n{from_the_other}\n");
     expect(subject, stream.as_bytes(), 33 * (loads + 4), &Ok(answers.into_bytes()), dice)

@@ -3,7 +3,6 @@
 use crate::across;
 use crate::distance::{self, Twice};
 use crate::faults::{pinch, ring_fault, shape_fault};
-use crate::inner;
 use crate::positions;
 use crate::prng::Dice;
 use crate::reached;
@@ -35,11 +34,6 @@ pub const FAMILIES: &[Family] = &[
     Family { name: "rings at the true distance", share: 2, write: true_distance },
     Family { name: "large rings at the true distance", share: 1, write: large_at_true_distance },
     Family { name: "edges asked for", share: 3, write: across::stream },
-    Family { name: "courtyards", share: 3, write: inner::courtyards },
-    Family { name: "inner rings in the wrong place", share: 4, write: inner::misplaced },
-    Family { name: "inner rings with faults of their own", share: 3, write: inner::faulty },
-    Family { name: "bounds of inner rings", share: 2, write: inner::bounds },
-    Family { name: "buildings after courtyards", share: 1, write: inner::with_court },
     Family { name: "histories", share: 5, write: histories },
     Family { name: "refusals", share: 5, write: refusals },
     Family { name: "begins and ends", share: 3, write: begins },
@@ -89,14 +83,13 @@ fn tolerance(dice: &mut Dice) -> usize {
 /// What the writer of a history believes to be held; only a guide, since the oracle decides.
 struct Believed {
     solid: Solid,
-    polygons: usize,
     last: u32,
     left: Vec<P>,
 }
 
 impl Believed {
     fn new(solid: &Solid) -> Believed {
-        Believed { solid: solid.clone(), polygons: solid.rings.len(), last: 0, left: vec![] }
+        Believed { solid: solid.clone(), last: 0, left: vec![] }
     }
 
     fn place(&mut self, dice: &mut Dice, point: usize) -> P {
@@ -157,7 +150,7 @@ impl Believed {
 
     /// One move, turn or question, as it comes.
     fn frame(&mut self, dice: &mut Dice, script: &mut Script) {
-        let (points, polygons) = (self.solid.points.len(), self.polygons);
+        let (points, polygons) = (self.solid.points.len(), self.solid.rings.len());
         match dice.below(12) {
             0..=3 => {
                 let (number, point) = (self.number(dice), self.element(dice, points));
@@ -192,24 +185,10 @@ impl Believed {
 }
 
 fn history(dice: &mut Dice, script: &mut Script, solid: &Solid, frames: usize) {
-    history_of(dice, script, solid, solid.rings.len(), frames);
-}
-
-/// A history of a building that has fewer polygons than rings.
-pub fn history_of(dice: &mut Dice, script: &mut Script, solid: &Solid, polygons: usize, frames: usize) {
-    let mut believed = Believed { polygons, ..Believed::new(solid) };
+    let mut believed = Believed::new(solid);
     for _ in 0..frames {
         believed.frame(dice, script);
     }
-}
-
-/// A small building and a few questions.
-pub fn small_load(dice: &mut Dice) -> Vec<u8> {
-    let mut script = Script::default();
-    let solid = solids::small(dice);
-    script.load(0, &solid, dice);
-    script.questions(dice, solid.rings.len());
-    script.bytes(dice)
 }
 
 fn valid_solids(dice: &mut Dice) -> Vec<u8> {
@@ -462,8 +441,7 @@ impl Asking<'_> {
         let fails = |by: i64| {
             let at = |&entry: &usize| if entry == corner { moved(by) } else { solid.points[entry] };
             let places = ring.iter().map(at).map(|p| Place { x: p[0].into(), y: p[1].into(), z: p[2].into() });
-            let places: Vec<Place> = places.collect();
-            fails_06(&places, &places, tolerance as i128)
+            fails_06(&places.collect::<Vec<_>>(), tolerance as i128)
         };
         let (mut here, mut there) = (0, if dice.once_in(2) { 6_000 } else { -6_000 });
         if fails(here) == fails(there) {
@@ -616,7 +594,7 @@ fn awkward(dice: &mut Dice, script: &mut Script, solid: &Solid, last: u32) {
     let taken = *dice.pick(&solid.points);
     let free = [dice.between(-9, 9), dice.between(5, 9), dice.between(-9, 9)];
     let place = *dice.pick(&[beyond, taken, taken, free]);
-    match dice.below(19) {
+    match dice.below(17) {
         0..=4 => script.shift(late, unknown, place),
         5 | 6 => script.turn(late, unknown),
         7 => script.question(unknown),
@@ -627,11 +605,9 @@ fn awkward(dice: &mut Dice, script: &mut Script, solid: &Solid, last: u32) {
         12 if dice.once_in(4) => script.end(),
         13 | 14 => script.across([unknown, *dice.pick(&[0, 1, 3, 4, unknown])]),
         15 => across::malformed(dice, script, [unknown, 1]),
-        16 => inner::awkward(dice, script, solid.points.len()),
-        17 => script.inner(&[0, unknown, 1, 0]),
         _ => {
             let broken: &[&str] =
-                &["", "04 ", "040", "4", "00", "09", "07000g", "070", "0100", "02", "0300", "030000000", "06", "05", "FF"];
+                &["", "04 ", "040", "4", "00", "08", "07000g", "070", "0100", "02", "0300", "030000000", "06", "05", "FF"];
             script.raw(dice.pick(broken));
         }
     }
@@ -664,9 +640,6 @@ fn begins(dice: &mut Dice) -> Vec<u8> {
         if dice.once_in(3) {
             script.polygon(&[0, 1, 2, 0]);
         }
-        if dice.once_in(3) {
-            script.inner(&[0, 2, 1, 0]);
-        }
         let frames = dice.below(8);
         history(dice, &mut script, &solid, frames);
     }
@@ -675,8 +648,7 @@ fn begins(dice: &mut Dice) -> Vec<u8> {
 
 /// A stream of another family with some of its bytes damaged.
 fn damage(dice: &mut Dice) -> Vec<u8> {
-    let write =
-        *dice.pick(&[valid_solids, ring_faults, shape_faults, histories, refusals, begins, inner::courtyards, inner::misplaced]);
+    let write = *dice.pick(&[valid_solids, ring_faults, shape_faults, histories, refusals, begins]);
     let mut bytes = write(dice);
     for _ in 0..1 + dice.below(6) {
         if bytes.is_empty() {
@@ -723,7 +695,7 @@ fn noise(dice: &mut Dice) -> Vec<u8> {
             0 => bytes.extend((0..dice.below(40)).map(|_| dice.below(256) as u8)),
             1 => bytes.extend((0..dice.below(530)).map(|_| *dice.pick(b"0123456789ABCDEF"))),
             _ => {
-                let kind = *dice.pick(&[0, 1, 2, 3, 4, 5, 6, 7, 8, 8, 0x0C]);
+                let kind = *dice.pick(&[0, 1, 2, 3, 4, 5, 6, 7, 8, 0x0C]);
                 let (entries, any) = (4 * dice.below(130), dice.below(40));
                 let length = *dice.pick(&[0, 4, 24, 12, 36, 8, entries, any]);
                 bytes.extend(format!("{kind:02X}").bytes());
@@ -736,7 +708,7 @@ fn noise(dice: &mut Dice) -> Vec<u8> {
 }
 
 /// Distinct places, as many as are wanted.
-pub fn many_points(script: &mut Script, count: usize) {
+fn many_points(script: &mut Script, count: usize) {
     (0..count).for_each(|k| script.point([k as i64, (k * k % 97) as i64, (k % 7) as i64]));
 }
 

@@ -1,14 +1,11 @@
 //! How often each thing was reached that the streams are meant to reach, by the oracle's account; what must be reached is listed.
 
 use crate::reach_asking;
-use crate::reach_inner;
 use crate::reach_marks;
 use crate::reach_positions;
 use crate::repeats;
 use oracle::frame::{decode, Frame};
 use oracle::held::{kind, refusals, refused_02_kind, step, State};
-use oracle::inner;
-use oracle::polygon;
 use oracle::report::findings;
 use oracle::ring;
 use oracle::shape;
@@ -133,7 +130,7 @@ const HISTORIES: &[&str] = &[
 /// Everything that must be reached.
 fn required() -> Vec<String> {
     let mut names = vec!["check 00 reported".to_string()];
-    for check in 1..=0x0F {
+    for check in 1..=0x0D {
         names.push(format!("check {check:02X} reported"));
         names.push(format!("check {check:02X} behind another"));
         // A ring with fewer than 4 entries also is open, or has no normal; nothing comes after 0D.
@@ -144,14 +141,13 @@ fn required() -> Vec<String> {
             names.push(format!("check {check:02X} before others"));
         }
     }
-    names.extend((0..=6).chain([0x0E, 0x0F]).map(|finding| format!("finding {finding:02X} asked for")));
+    names.extend((0..=6).map(|finding| format!("finding {finding:02X} asked for")));
     names.extend((1..=7).map(|refusal| format!("refusal {refusal:02X}")));
     names.extend(PAIRS.iter().map(|(first, second)| format!("refusals {first:02X} and {second:02X}")));
     let states = ["nothing", "loading", "held"];
-    for kind in (1..=8).chain([0x0C]) {
+    for kind in (1..=7).chain([0x0C]) {
         for state in states {
-            let of_load = kind <= 4 || kind == 8;
-            let meant = kind == 1 || (state == "loading" && of_load) || (state == "held" && !of_load);
+            let meant = kind == 1 || (state == "loading" && kind <= 4) || (state == "held" && kind >= 5);
             names.push(format!("frame {kind:02X} {} while {state}", if meant { "accepted" } else { "refused 02" }));
         }
     }
@@ -161,7 +157,6 @@ fn required() -> Vec<String> {
     names.extend(reach_positions::names());
     names.extend(reach_marks::names());
     names.extend(reach_asking::names());
-    names.extend(reach_inner::names());
     names
 }
 
@@ -212,7 +207,6 @@ impl Reach {
         let mut state = State::Nothing;
         let mut past = Past::default();
         let mut since = reach_asking::Since::default();
-        let mut inner = reach_inner::Since::default();
         for line in all {
             let before = state.clone();
             let answer = step(&mut state, line);
@@ -225,7 +219,6 @@ impl Reach {
                     _ if answer.len() == 32 => self.report(&state.tables(), Told::read(&answer)),
                     _ => {}
                 }
-                self.count_all(inner.frame(&before, &state, &frame, &answer));
                 if frame == Frame::End && answer.len() == 32 {
                     self.rings(&state.tables());
                 }
@@ -245,7 +238,6 @@ impl Reach {
             let kind = line.get(..2).and_then(|two| std::str::from_utf8(two).ok()).and_then(|two| u8::from_str_radix(two, 16).ok());
             self.count_if(refused_02_kind(state, kind.unwrap_or(0)), "refusals 01 and 02");
             self.count_if(line.len() == 518 && line.starts_with(b"03"), "ring of 129 refused 01");
-            self.count_all(reach_inner::malformed(state, line));
             return;
         };
         let rows = refusals(state, &frame);
@@ -349,18 +341,12 @@ impl Reach {
     fn rings(&mut self, tables: &Tables) {
         let findings = findings(tables);
         let mut before: &[usize] = &[];
-        for (_, ring) in tables.rings() {
-            repeats::reached(ring, before).into_iter().for_each(|name| self.count(name));
-            before = ring;
-        }
-        for (rings, &finding) in tables.polygons.iter().zip(&findings) {
-            let [ring] = &rings[..] else {
-                self.count_all(reach_inner::of_polygon(tables, rings, finding));
-                continue;
-            };
-            let places = tables.places(ring);
+        for (polygon, &finding) in findings.iter().enumerate() {
+            let places = tables.places(polygon);
+            repeats::reached(&tables.polygons[polygon], before).into_iter().for_each(|name| self.count(name));
+            before = &tables.polygons[polygon];
             self.count_if(places.len() == 3 && ring::part(&places) != 0, "ring of 3 entries with a part");
-            self.count_all(reach_positions::of_ring(tables, ring, finding));
+            self.count_all(reach_positions::of_ring(tables, polygon, finding));
             if finding == 0 || finding >= 5 {
                 self.ring(&places, tables.tolerance, finding);
             }
@@ -500,22 +486,23 @@ impl Reach {
             Frame::Move { point, place, .. } if accepted => {
                 self.count_if(old.points[*point] == *place, "move to the own place");
                 self.count_if(old.points[*point] != *place && past.left.contains(place), "move to a place that was left");
-                let listing = (0..new.polygons.len()).filter(|&k| new.lists(k, *point)).count();
+                let listing = new.polygons.iter().filter(|ring| ring.contains(point)).count();
                 self.count_if(listing >= 2, "a stamp from a move, 2 or more polygons");
                 self.by_a_millimetre(old, new, *point);
                 self.count_all(reach_positions::of_move(old, new, *point));
-                let faulty = (0..new.polygons.len()).any(|k| new.lists(k, *point) && polygon::finding(new, k) != 0);
+                let faulty = (0..new.polygons.len()).any(|k| new.polygons[k].contains(point) && ring::finding(new, k) != 0);
                 self.count_if(faulty, "a stamp on a polygon with a finding");
                 past.left.push(old.points[*point]);
             }
             Frame::Move { place, .. } if answer == "06" => {
                 let taken = old.points.iter().position(|each| each == place).expect("it is taken");
-                self.count_if(!old.rings().any(|(_, ring)| ring.contains(&taken)), "place taken by a point in no ring");
+                self.count_if(!old.polygons.iter().any(|ring| ring.contains(&taken)), "place taken by a point in no ring");
             }
             Frame::Turn { polygon, .. } if accepted => {
-                let open = old.polygons[*polygon].iter().any(|ring| ring.len() >= 4 && ring.first() != ring.last());
+                let ring = &old.polygons[*polygon];
+                let open = ring.len() >= 4 && ring.first() != ring.last();
                 self.count_if(open, "open ring turned");
-                let parts = (polygon::part(old, *polygon), polygon::part(new, *polygon));
+                let parts = (ring::part(&old.places(*polygon)), ring::part(&new.places(*polygon)));
                 self.count_if(open && parts.0 != -parts.1, "open ring turned, part not negated");
                 let again = !past.turned.insert(*polygon);
                 self.count_if(again, "turned and turned back");
@@ -532,13 +519,10 @@ impl Reach {
         if by.dot(by) != 1 {
             return;
         }
-        for polygon in (0..new.polygons.len()).filter(|&polygon| new.lists(polygon, point)) {
-            let [was, is] = [old, new].map(|tables| {
-                let rings = tables.places_of(polygon);
-                !rings[0].is_empty() && ring::fails_06(&rings[0], &rings.concat(), tables.tolerance)
-            });
+        for polygon in (0..new.polygons.len()).filter(|&polygon| new.polygons[polygon].contains(&point)) {
+            let [was, is] = [old, new].map(|tables| ring::fails_06(&tables.places(polygon), tables.tolerance));
             // Findings take long to work out: only where 06 changes.
-            let findings = if was == is { (0, 0) } else { (polygon::finding(old, polygon), polygon::finding(new, polygon)) };
+            let findings = if was == is { (0, 0) } else { (ring::finding(old, polygon), ring::finding(new, polygon)) };
             self.count_if(findings == (0, 6), "a move by a millimetre makes 06 fail");
             self.count_if(findings == (6, 0), "a move by a millimetre makes 06 pass");
         }
@@ -546,15 +530,14 @@ impl Reach {
 
     /// A turn right at the tolerance or right beyond it.
     fn turned_at_tolerance(&mut self, old: &Tables, polygon: usize) {
-        let [ring] = &old.polygons[polygon][..] else { return };
-        let places = old.places(ring);
+        let places = old.places(polygon);
         if places.len() < 4 {
             return;
         }
         let distance = Distance::of(&places, old.tolerance);
         let (at, beyond) = (distance.tilted() && distance.at_tolerance(), distance.tilted() && distance.by_least_step());
         if at || beyond {
-            let finding = polygon::finding(old, polygon);
+            let finding = ring::finding(old, polygon);
             self.count_if(at && finding == 0, "a ring exactly at its tolerance turned, N tilted");
             self.count_if(beyond && finding == 6, "a ring that fails 06 by the least step turned, N tilted");
         }
@@ -663,32 +646,23 @@ impl Told {
     }
 }
 
-/// The checks of 01 to 06, 0E and 0F that some polygon fails, taken one by one; 05 and 06 where there is a plane to speak of, 05 where no
-/// number stands twice (it would always fail); 0E and 0F where the outer ring has a plane and every ring is closed, 0F where no points
-/// are shared (there is no inside else).
+/// The checks of 01 to 06 that some polygon fails, taken one by one; 05 and 06 where there is a plane to speak of, 05 where no number
+/// stands twice (it would always fail).
 fn ring_failures(tables: &Tables) -> BTreeSet<u8> {
     let mut failing = BTreeSet::new();
-    for (_, ring) in tables.rings() {
-        let places = tables.places(ring);
+    for (polygon, ring) in tables.polygons.iter().enumerate() {
+        let places = tables.places(polygon);
         let plane = ring::normal(&places) != ORIGIN;
         let whole = !ring::fails_01(ring) && !ring::fails_02(ring) && !ring::fails_03(ring);
-        let tests =
-            [ring::fails_01(ring), ring::fails_02(ring), ring::fails_03(ring), !plane, plane && whole && ring::fails_05(&places)];
-        failing.extend((1..=5).filter(|&check| tests[check as usize - 1]));
-    }
-    for (polygon, rings) in tables.polygons.iter().enumerate() {
-        let places = tables.places_of(polygon);
-        if places[0].is_empty() || ring::normal(&places[0]) == ORIGIN {
-            continue;
-        }
-        let closed = rings.iter().all(|ring| !ring::fails_01(ring) && !ring::fails_02(ring));
-        let shared = closed && inner::fails_0e(&places);
         let tests = [
-            (6, ring::fails_06(&places[0], &places.concat(), tables.tolerance)),
-            (0x0E, shared),
-            (0x0F, closed && !shared && inner::fails_0f(&places)),
+            ring::fails_01(ring),
+            ring::fails_02(ring),
+            ring::fails_03(ring),
+            !plane,
+            plane && whole && ring::fails_05(&places),
+            plane && ring::fails_06(&places, tables.tolerance),
         ];
-        failing.extend(tests.iter().filter(|(_, fails)| *fails).map(|(check, _)| *check));
+        failing.extend((1..=6).filter(|&check| tests[check as usize - 1]));
     }
     failing
 }

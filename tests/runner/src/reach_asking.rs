@@ -53,7 +53,7 @@ const BEFORE: &[&str] = &[
 
 pub fn names() -> Vec<String> {
     let mut names: Vec<String> = [REFUSED, BEFORE].concat().iter().map(|name| name.to_string()).collect();
-    names.extend((0..=0x0F).map(|check| format!("frame 0C while check {check:02X} is reported")));
+    names.extend((0..=0x0D).map(|check| format!("frame 0C while check {check:02X} is reported")));
     names.extend(reach_across::names());
     names
 }
@@ -142,7 +142,7 @@ impl Since {
             turned(&[1]),
             turned(&[2]),
             turned(&[3]),
-            turned(&[4, 5, 6, 0x0E, 0x0F]),
+            turned(&[4, 5, 6]),
             !self.turned.is_empty() && !found.iter().any(|user| self.turned.contains_key(user)),
             found.iter().any(|user| self.turned.get(user).is_some_and(|times| times % 2 == 0)),
             moved && found.iter().any(odd),
@@ -160,7 +160,7 @@ impl Since {
         let count = tables.points.len();
         let (equal, unknown) = (ends[0] == ends[1], ends.map(|end| end >= count));
         let (no_building, nothing_known) = (answer == "02", answer == "05");
-        let stays = |(_, ring): (usize, &Vec<usize>)| ring.windows(2).any(|two| two == ends);
+        let stays = |ring: &Vec<usize>| ring.windows(2).any(|two| two == ends);
         let holds = [
             no_building && !equal && unknown == [false; 2],
             no_building && self.dropped.is_some(),
@@ -171,7 +171,7 @@ impl Since {
             nothing_known && unknown == [true, true] && !equal,
             nothing_known && equal && !unknown[0],
             nothing_known && equal && unknown[0],
-            nothing_known && equal && tables.rings().any(stays),
+            nothing_known && equal && tables.polygons.iter().any(stays),
             nothing_known && !equal && ends.contains(&count),
             nothing_known && !equal && ends.contains(&512) && count == 512,
             nothing_known && !equal && ends.contains(&0xFFFF),

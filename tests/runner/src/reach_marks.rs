@@ -37,7 +37,7 @@ pub fn names() -> Vec<String> {
 
 /// What a report shows of 0B and 0C, if it comes so far.
 pub fn of_report(tables: &Tables, check: u8, a: usize) -> Vec<String> {
-    if tables.polygons.len() < LEAST || (1..0x0B).contains(&check) || check > 0x0D {
+    if tables.polygons.len() < LEAST || (1..0x0B).contains(&check) {
         return vec![];
     }
     let edges = shape::edges(tables);
@@ -111,7 +111,7 @@ fn ending_at(edges: &Edges, point: usize) -> Edges {
 fn fans(edges: &Edges, tables: &Tables, point: usize) -> Vec<Vec<usize>> {
     let mut corners: BTreeMap<usize, usize> = BTreeMap::new();
     let mut before = 0;
-    for (polygon, ring) in tables.rings() {
+    for (polygon, ring) in tables.polygons.iter().enumerate() {
         corners.extend(ring.iter().position(|&entry| entry == point).map(|at| (polygon, before + at)));
         before += ring.len();
     }

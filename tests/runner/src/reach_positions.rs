@@ -1,7 +1,6 @@
 //! What must be reached of positions: where in a ring 03, 05 and 06 fail, what a wrong program would tell instead, and what turns and
 //! moves do to it. By the oracle's account.
 
-use oracle::polygon;
 use oracle::ring::{self, fails_01, fails_02, fails_03, Flat};
 use oracle::tables::{Place, Tables};
 
@@ -108,9 +107,9 @@ fn held(found: Vec<(bool, &str)>) -> Vec<String> {
     found.into_iter().filter(|(holds, _)| *holds).map(|(_, name)| name.to_string()).collect()
 }
 
-/// What a polygon of one ring of a fresh load shows; its finding is given.
-pub fn of_ring(tables: &Tables, ring: &[usize], finding: u8) -> Vec<String> {
-    let places = tables.places(ring);
+/// What a polygon of a fresh load shows; its finding is given.
+pub fn of_ring(tables: &Tables, polygon: usize, finding: u8) -> Vec<String> {
+    let (ring, places) = (&tables.polygons[polygon], tables.places(polygon));
     match finding {
         1 => held(vec![(fails_03(ring), "01, a number stands twice")]),
         2 => held(vec![(fails_03(ring), "02, a number stands twice")]),
@@ -203,7 +202,7 @@ pub fn of_report(tables: &Tables, check: u8, a: usize, b: usize) -> Vec<String> 
         return vec![];
     }
     let behind = if b > 0 && tables.entries() < 200 { a + 1..tables.polygons.len() } else { 0..0 };
-    let lower = |polygon: usize| CHECKS.contains(&polygon::finding(tables, polygon)) && polygon::position(tables, polygon) < b;
+    let lower = |polygon: usize| CHECKS.contains(&ring::finding(tables, polygon)) && ring::position(tables, polygon) < b;
     held(vec![
         (check == 3 && b > 0, "report of 03 with b above 0"),
         (check == 5 && b == 0, "report of 05 with b 0"),
@@ -227,11 +226,11 @@ pub fn of_question(line: &str) -> Vec<String> {
 
 /// What a turn shows; `again` where the polygon was turned before.
 pub fn of_turn(old: &Tables, new: &Tables, polygon: usize, again: bool) -> Vec<String> {
-    let check = polygon::finding(old, polygon);
+    let check = ring::finding(old, polygon);
     if !CHECKS.contains(&check) {
         return vec![];
     }
-    let changed = polygon::position(old, polygon) != polygon::position(new, polygon);
+    let changed = ring::position(old, polygon) != ring::position(new, polygon);
     let mut names = vec![format!("a turn {} the position of {check:02X}", if changed { "changes" } else { "leaves" })];
     if again {
         names.push(format!("turned and turned back with a position of {check:02X}"));
@@ -243,9 +242,9 @@ pub fn of_turn(old: &Tables, new: &Tables, polygon: usize, again: bool) -> Vec<S
 pub fn of_move(old: &Tables, new: &Tables, point: usize) -> Vec<String> {
     let mut names = vec![];
     for polygon in 0..new.polygons.len() {
-        if new.lists(polygon, point) {
+        if new.polygons[polygon].contains(&point) {
             names.extend(of_listed(old, new, polygon));
-        } else if names.is_empty() && new.entries() < 200 && polygon::position(new, polygon) > 0 {
+        } else if names.is_empty() && new.entries() < 200 && ring::position(new, polygon) > 0 {
             names.push("a move of a point that is not listed leaves a position".to_string());
         }
     }
@@ -253,12 +252,13 @@ pub fn of_move(old: &Tables, new: &Tables, point: usize) -> Vec<String> {
 }
 
 fn of_listed(old: &Tables, new: &Tables, polygon: usize) -> Vec<String> {
-    if new.polygons[polygon].iter().any(|ring| fails_01(ring) || fails_02(ring)) {
+    let ring = &new.polygons[polygon];
+    if fails_01(ring) || fails_02(ring) {
         return vec![];
     }
-    let (was, is) = (polygon::finding(old, polygon), polygon::finding(new, polygon));
+    let (was, is) = (ring::finding(old, polygon), ring::finding(new, polygon));
     if was == is {
-        let (before, after) = (polygon::position(old, polygon), polygon::position(new, polygon));
+        let (before, after) = (ring::position(old, polygon), ring::position(new, polygon));
         return held(vec![
             (is == 3 && before == after, "a move of a listed point leaves the position of 03"),
             (is == 5 && after > before, "a move makes the position of 05 greater"),

@@ -31,11 +31,6 @@ impl Script {
         self.raw(format!("03{entries}"));
     }
 
-    pub fn inner(&mut self, ring: &[usize]) {
-        self.polygon(ring);
-        self.lines.last_mut().expect("a polygon")[1] = b'8';
-    }
-
     pub fn end(&mut self) {
         self.raw("04");
     }

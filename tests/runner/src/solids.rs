@@ -251,12 +251,6 @@ impl Solid {
 
     /// Points and polygons numbered another way, rings begun at another entry.
     pub fn renumber(&mut self, dice: &mut Dice) {
-        self.renumber_points(dice);
-        dice.shuffle(&mut self.rings);
-    }
-
-    /// Points numbered another way, rings begun at another entry.
-    pub fn renumber_points(&mut self, dice: &mut Dice) {
         let mut place: Vec<usize> = (0..self.points.len()).collect();
         dice.shuffle(&mut place);
         let mut points = vec![[0; 3]; self.points.len()];
@@ -273,6 +267,7 @@ impl Solid {
                 ring.push(ring[0]);
             }
         }
+        dice.shuffle(&mut self.rings);
     }
 
     /// Both solids; points of `other` that stand where one of this solid stands become that one.

@@ -1,11 +1,9 @@
 -- How the arrays and the scalars hold a building.
 use Rattle.std.specs.Prelude.{ℕ, ◌≤◌, ◌<◌, ◌≡◌, Bool, true, ◌||◌, List, ◌⊎◌, length, get_or, take, ℤ, pos}
-use Rattle.whole.specs.Lists.{any, any_two, lists}
 use Rattle.polygon.specs.Ring.{is_short}
 use Rattle.inner.specs.Finding.{finding, part}
 use Rattle.ring.specs.Entries.{is_unclosed, is_repeated}
 use Rattle.space.specs.held.Points.{points_of, Coords}
-use Rattle.ring.specs.Polygon.{Polygon, rings_of}
 use Rattle.ring.specs.held.Rings.{ring_at, polygon_at, polygons, Layout}
 use Rattle.shell.specs.held.Held.{Entries}
 use Rattle.shell.specs.declared.Shape.{Shape}
@@ -53,6 +51,7 @@ pub record Loaded (points : List ℤ) (entries starts firsts : List ℕ) (s : Sc
   pub coords : Coords points
   pub first : get_or starts 0 0 ≡ 0
   pub layout : Layout entries starts firsts s.polygons
+  pub ones : (p : ℕ) → p ≤ s.polygons → get_or firsts p 0 ≡ p
   pub entered : Entries entries (get_or starts (get_or firsts s.polygons 0) 0) s.points
   pub tolerant : s.tolerance ≤ 1000
   pub short : (r : ℕ) → r < get_or firsts s.polygons 0 → length (ring_at entries starts r) ≤ 128
@@ -79,20 +78,11 @@ pub record Summed (points : List ℤ) (entries starts firsts : List ℕ) (parts 
 unfoldable pub is_broken : List ℕ → Bool
 is_broken ring = is_short ring || is_unclosed ring || is_repeated ring
 
--- whether two rings list one number
-unfoldable pub share_number : List ℕ → List ℕ → Bool
-share_number r s = any (λ n. lists n s) r
-
--- whether no correction mends a polygon: some ring fails one of checks 01 to 03, or two list one number, whose point they share wherever
--- it stands
-unfoldable pub is_unmendable_of : Polygon → Bool
-is_unmendable_of p = any is_broken (rings_of p) || any_two share_number (rings_of p)
-
--- some polygon is so
+-- the outer ring of some polygon fails one of checks 01 to 03, which no correction mends
 pub record Broken (entries starts firsts : List ℕ) (n : ℕ) : Type 0 where
   pub polygon : ℕ
   pub below : polygon < n
-  pub broken : is_unmendable_of (polygon_at entries starts firsts polygon) ≡ true
+  pub broken : is_broken (polygon_at entries starts firsts polygon).outer ≡ true
 
 -- `now` is the shape that the kept table, flags and verdict tell: that of the present polygons, where each ring passes 01 to 03
 abbrev pub Shown : List ℕ → ℕ → List ℕ → Shape → Shape → Type 0

@@ -26,7 +26,7 @@ pub record NoneFails (t : Tables) : Type 0 where
   pub closed : shape t.polygons ≡ Whole
   pub outward : le_z (six_volume_of t) (pos 0) ≡ false
 
-pub is_sound : (f : Finding) → is_fault f ≡ false → f ≡ Sound
+is_sound : (f : Finding) → is_fault f ≡ false → f ≡ Sound
 unfolding is_fault finding_number_of
 is_sound Sound e = refl
 is_sound Short e = absurd (true≢false e)

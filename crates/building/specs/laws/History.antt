@@ -151,12 +151,7 @@ unfolding map_from
 length-map_from f [] k = refl
 length-map_from f (x ∷ l) k = ap suc (length-map_from f l (suc k))
 
--- corrections leave the number of points
-pub points-told : (t : Tables) (h : List Correction) → length (told t h).tables.points ≡ length t.points
-unfolding told corrected
-points-told t h = length-map_from (place_of h) t.points 0
-
--- and of polygons
+-- corrections leave the number of polygons
 pub polygons-told : (t : Tables) (h : List Correction) → length (told t h).tables.polygons ≡ length t.polygons
 unfolding told corrected
 polygons-told t h = length-map_from (after_turns h) t.polygons 0

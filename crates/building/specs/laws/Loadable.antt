@@ -1,23 +1,19 @@
 -- The tables that a load can bring about: every held building has such tables, before and after corrections.
-use Rattle.std.specs.Prelude.{ℕ, zero, suc, ◌+◌, ◌≤◌, ◌<◌, ◌≡◌, refl, Bool, true, false, set}
-use native.Mathlib.Omega.{arith}
-use Rattle.std.proofs.Common.{sym, ◌∙◌, true≢false}
-use Rattle.std.proofs.Math.Path.{ap}
-use mathlib.Core.List.{List, [], ◌∷◌, ◌++◌, map, reverse, append_assoc, append-nil}
+use Rattle.std.specs.Prelude.{ℕ, zero, suc, ◌+◌, ◌≤◌, ◌<◌, ◌≡◌, Bool, true, false, List, [], ◌∷◌, ◌++◌, map, reverse, set}
+use Rattle.std.proofs.Common.{arith, ◌∙◌, true≢false}
+use Rattle.std.proofs.Math.Path.{refl, ap}
 use Rattle.std.proofs.Math.ListN.{length, length-append, length-set}
-use Rattle.std.proofs.lemmas.List.{length-reverse, length-map}
-use Rattle.whole.specs.Lists.{at, front}
+use Rattle.std.proofs.lemmas.List.{length-reverse}
+use Rattle.whole.specs.Lists.{at}
 use Rattle.whole.specs.All.{All, none, more}
 use Rattle.whole.specs.laws.Alls.{all_imp, all_append, all_middle, all_set, all-at, all-reverse, any_none, none_any}
 use Rattle.space.specs.Space.{Point, same_place_of}
 use Rattle.space.specs.laws.Laws.{same_place-sym}
 use Rattle.shell.specs.laws.Tabs.{length_at}
 use Rattle.places.specs.Points.{is_far_of, stands, stands_else_of}
-use Rattle.ring.specs.Polygon.{Polygon, one, rings_of, all, entries_from, turned_over}
+use Rattle.ring.specs.Polygon.{Polygon, one, entries_from, turned_over}
 use Rattle.ring.specs.laws.Turned.{entries-one, length-turned}
-use Rattle.building.specs.Tables.{Tables, Building, begun, with_point, with_polygon, with_ring, last_polygon, with_inner, entries, moved, turned}
-use Rattle.building.specs.laws.Last.{front-last, all-front, all-last}
-use Rattle.building.specs.laws.Accepted.{to_map}
+use Rattle.building.specs.Tables.{Tables, Building, begun, with_point, with_polygon, entries, moved, turned}
 
 -- "two different numbers are never one place"
 pub data Apart : List Point → Type 0 where
@@ -29,10 +25,10 @@ pub record RingOver (n : ℕ) (ring : List ℕ) : Type 0 where
   pub few : length ring ≤ 128
   pub known : All (λ (e : ℕ). e < n) ring
 
--- a polygon of such rings, at most eight of them inner ones
+-- a polygon of one such ring
 pub record PolygonOver (n : ℕ) (p : Polygon) : Type 0 where
-  pub rings : All (RingOver n) (rings_of p)
-  pub few : length p.inner ≤ 8
+  pub outer : RingOver n p.outer
+  pub alone : p.inner ≡ []
 
 -- the bounds, and refusals 05 and 06
 pub record Loadable (t : Tables) : Type 0 where
@@ -84,36 +80,11 @@ pub entries_more : (ps : List Polygon) (ring : List ℕ) → entries (ps ++ (one
 unfolding entries
 entries_more ps ring = entries_append ps (one ring ∷ []) ∙ rw (entries-one ring) (omega arith)
 
--- an inner ring more
-pub entries_ring : (ps : List Polygon) (p : Polygon) (ring : List ℕ) → entries (ps ++ (with_ring ring p ∷ [])) ≡ entries (ps ++ (p ∷ [])) + length ring
-unfolding entries with_ring entries_from rings_of all
-entries_ring ps p ring =
-    let m : length (all (λ r. r) (p.outer ∷ (p.inner ++ (ring ∷ [])))) ≡ length (all (λ r. r) (p.outer ∷ p.inner)) + length ring = ap length (all_more (p.outer ∷ p.inner) ring) ∙ length-append (all (λ r. r) (p.outer ∷ p.inner)) ring in
-    entries_append ps (with_ring ring p ∷ []) ∙ omega (arith, entries_append ps (p ∷ []))
-  where
-    all_more : (rs : List (List ℕ)) (r : List ℕ) → all (λ q. q) (rs ++ (r ∷ [])) ≡ all (λ q. q) rs ++ r
-    all_more [] r = append-nil r
-    all_more (q ∷ rs) r = ap (λ (l : List ℕ). q ++ l) (all_more rs r) ∙ sym (append_assoc q (all (λ q. q) rs) r)
-
--- and its polygon, with one of at most eight
-over_ring : {n : ℕ} (ring : List ℕ) (p : Polygon) → RingOver n ring → length p.inner < 8 → PolygonOver n p → PolygonOver n (with_ring ring p)
-unfolding with_ring rings_of
-over_ring ring p r few z = record { rings = all_append z.rings (more r none); few = omega (arith, length-append p.inner (ring ∷ [])) }
-
 entries-turn : (ps : List Polygon) (n : ℕ) → entries (at n turned_over ps) ≡ entries ps
 unfolding entries at
 entries-turn [] n = refl
 entries-turn (p ∷ ps) zero = rw (length-turned p)
 entries-turn (p ∷ ps) (suc n) = let ih : entries (at n turned_over ps) ≡ entries ps = entries-turn ps n in rw ih
-
--- turned, it has as many rings, as long
-over-turned : {n : ℕ} (p : Polygon) → PolygonOver n p → PolygonOver n (turned_over p)
-unfolding turned_over rings_of
-over-turned p z =
-    record {
-      rings = to_map reverse (RingOver _) (p.outer ∷ p.inner) (all_imp (λ r y. record { few = rw (length-reverse r) y.few; known = all-reverse y.known }) z.rings);
-      few = omega (arith, length-map p.inner reverse, z.few);
-    }
 
 -- ---- what keeps tables loadable
 
@@ -134,11 +105,11 @@ module _ (t : Tables) (ok : Loadable t) where
         apart = apart_append t.points p ok.apart new;
         polygons_few = ok.polygons_few;
         entries_few = ok.entries_few;
-        each = all_imp (λ p z. record { rings = all_imp (λ r y. record { few = y.few; known = all_imp (λ e h. omega arith) y.known }) z.rings; few = z.few }) ok.each;
+        each = all_imp (λ p z. record { outer = record { few = z.outer.few; known = all_imp (λ e h. omega arith) z.outer.known }; alone = z.alone }) ok.each;
       }
 
   pub loadable_polygon : (ring : List ℕ) → RingOver (length t.points) ring → length t.polygons < 256 → entries t.polygons + length ring ≤ 1024 → Loadable (with_polygon ring t)
-  unfolding with_polygon one rings_of
+  unfolding with_polygon one
   loadable_polygon ring r few room =
       let n : length (t.polygons ++ (one ring ∷ [])) ≡ length t.polygons + 1 = length-append t.polygons (one ring ∷ []) in
       let e : entries (t.polygons ++ (one ring ∷ [])) ≡ entries t.polygons + length ring = entries_more t.polygons ring in
@@ -149,26 +120,7 @@ module _ (t : Tables) (ok : Loadable t) where
         apart = ok.apart;
         polygons_few = omega arith;
         entries_few = omega arith;
-        each = all_append ok.each (more (record { rings = more r none; few = omega arith }) none);
-      }
-
-  pub loadable_inner : (ring : List ℕ) → RingOver (length t.points) ring → 1 ≤ length t.polygons → length (last_polygon t).inner < 8 → entries t.polygons + length ring ≤ 1024 → Loadable (with_inner ring t)
-  unfolding with_inner last_polygon
-  loadable_inner ring r some few room =
-      let last : Polygon = last_polygon t in
-      let s : t.polygons ≡ front t.polygons ++ (last ∷ []) = front-last (one []) t.polygons some in
-      let z : PolygonOver (length t.points) last = all-last (one []) some ok.each in
-      let n : length (front t.polygons ++ (with_ring ring last ∷ [])) ≡ length (front t.polygons) + 1 = length-append (front t.polygons) (with_ring ring last ∷ []) in
-      let m : length t.polygons ≡ length (front t.polygons) + 1 = ap length s ∙ length-append (front t.polygons) (last ∷ []) in
-      let e : entries (front t.polygons ++ (with_ring ring last ∷ [])) ≡ entries t.polygons + length ring = entries_ring (front t.polygons) last ring ∙ ap (λ (ps : List Polygon). entries ps + length ring) (sym s) in
-      record {
-        tolerant = ok.tolerant;
-        points_few = ok.points_few;
-        near = ok.near;
-        apart = ok.apart;
-        polygons_few = omega (arith, ok.polygons_few);
-        entries_few = omega arith;
-        each = all_append (all-front ok.each) (more (over_ring ring last r few z) none);
+        each = all_append ok.each (more (record { outer = r; alone = refl }) none);
       }
 
 module _ (b : Building) (ok : Loadable b.tables) where
@@ -196,5 +148,5 @@ module _ (b : Building) (ok : Loadable b.tables) where
         apart = ok.apart;
         polygons_few = rw (length_at n turned_over b.tables.polygons) ok.polygons_few;
         entries_few = rw (entries-turn b.tables.polygons n) ok.entries_few;
-        each = all-at n turned_over over-turned ok.each;
+        each = all-at n turned_over (λ p z. record { outer = record { few = rw (length-reverse p.outer) z.outer.few; known = all-reverse z.outer.known }; alone = ap (map reverse) z.alone }) ok.each;
       }

@@ -1,17 +1,17 @@
 -- The rings and polygons of loaded tables: how long they are, and what their entries are.
 use Rattle.std.specs.Prelude.{ℕ, ◌+◌, ◌-◌, ◌≤◌, ◌<◌, ◌≡◌, List, length, get_or, ℤ}
-use Rattle.std.proofs.Common.{le_refl, arith, sym, subst}
+use Rattle.std.proofs.Common.{le_refl, arith, sym, ap, subst, ◌∙◌}
 use Rattle.whole.specs.All.{All}
-use Rattle.ring.specs.Polygon.{entries_from}
+use Rattle.ring.specs.Polygon.{one, entries_from}
 use Rattle.ring.specs.held.Rings.{ring_at, polygon_at, polygons}
+use Rattle.ring.specs.laws.Turned.{polygon-one, entries-one}
 use Rattle.building.specs.declared.Scalars.{Scalars}
 use Rattle.whole.specs.laws.Places.{tab-length}
 use Rattle.holes.specs.held.Rings.{Ring}
-use Rattle.inner.specs.laws.Tables.{entries_are}
 use Rattle.building.specs.laws.Lists.{length_cut, get_d_cut, each_all}
 use Rattle.ring.specs.laws.Owners.{firsts_ordered}
 use Rattle.building.specs.held.Holds.{Loaded}
-use Rattle.building.specs.held.Rings.{cut, Stands}
+use Rattle.building.specs.held.Rings.{Stands}
 
 pub ring_length : (entries starts : List ℕ) (r : ℕ) → length entries ≡ 1024 → get_or starts (r + 1) 0 ≤ 1024 → length (ring_at entries starts r) ≡ get_or starts (r + 1) 0 - get_or starts r 0
 ring_length entries starts r s w = length_cut (get_or starts r 0) (get_or starts (r + 1) 0) entries (omega arith)
@@ -57,21 +57,15 @@ module _ {points : List ℤ} {entries starts firsts : List ℕ} {s : Scalars} (l
         };
       }
 
-  -- the entries of polygon p stand one after another
-  pub starts_ordered : (p : ℕ) → p < s.polygons → get_or starts (get_or firsts p 0) 0 ≤ get_or starts (get_or firsts (p + 1) 0) 0
-  starts_ordered p h =
-      let f = firsts_ordered entries starts firsts s.polygons ld.layout in
-      ld.layout.ordered (get_or firsts p 0) (get_or firsts (p + 1) 0) (f p (p + 1) (omega arith) (omega arith)) (f (p + 1) s.polygons (omega arith) (le_refl _))
+  -- the polygons have one ring each
+  pub one_each : (p : ℕ) → p < s.polygons → polygon_at entries starts firsts p ≡ one (ring_at entries starts p)
+  one_each p h = polygon-one entries starts firsts p (ld.ones p (omega arith)) (ld.ones (p + 1) (omega arith))
 
-  -- the entries of polygon p, which stand one after another, are numbers of points
+  pub rings-many : get_or firsts s.polygons 0 ≡ s.polygons
+  rings-many = ld.ones s.polygons (le_refl s.polygons)
+
+  -- the entries of polygon p are numbers of points
   pub polygon_below : (p : ℕ) → p < s.polygons → All (λ (e : ℕ). e < s.points) (entries_from (polygon_at entries starts firsts p))
   polygon_below p h =
-      let st = stands_of p h in
-      let a : ℕ = get_or starts (get_or firsts p 0) 0 in
-      let b : ℕ = get_or starts (get_or firsts (p + 1) 0) 0 in
-      let f : get_or firsts (p + 1) 0 ≤ get_or firsts s.polygons 0 = firsts_ordered entries starts firsts s.polygons ld.layout (p + 1) s.polygons (omega arith) (le_refl _) in
-      let t : b ≤ get_or starts (get_or firsts s.polygons 0) 0 = ld.layout.ordered (get_or firsts (p + 1) 0) (get_or firsts s.polygons 0) f (le_refl _) in
-      let l : length (cut a b entries) ≡ b - a = length_cut a b entries (omega (arith, ld.layout.inside, ld.entered.size)) in
-      subst (All (λ (e : ℕ). e < s.points)) (entries_are st.lies.rings st.lies.some)
-      (each_all (λ (e : ℕ). e < s.points) 0 (cut a b entries)
-      (λ i g. let k : i < b - a = omega arith in subst (λ (e : ℕ). e < s.points) (sym (get_d_cut a b i entries 0 k)) (ld.entered.below (a + i) (omega arith))))
+      subst (All (λ (e : ℕ). e < s.points)) (sym (ap entries_from (one_each p h) ∙ entries-one (ring_at entries starts p)))
+      (each_all (λ (e : ℕ). e < s.points) 0 (ring_at entries starts p) (ring_below p (omega (arith, rings-many))))

@@ -33,7 +33,7 @@ returns-4 c =
 all-requires : tie.Need-all-requires
 all-requires c κs =
     let n = c.before.before.before.count-lines.ensures in
-    (c.before.before.before.before.if2.false, (omega arith, omega arith))
+    (c.before.before.before.before.if2.false, omega arith)
 
 cast-result : tie.Need-overflow-cast-result
 cast-result c =

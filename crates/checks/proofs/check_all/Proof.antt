@@ -1,11 +1,11 @@
 -- `checks::check_all` meets its contract, by the law of end of load (`did_loaded`): the edge table is that of the rings, and the verdict
--- too where no polygon is one that no correction mends.
+-- too where none of them is broken.
 use native.Mathlib.Omega.{arith}
-use mathlib.Core.Path.{sym, ◌∙◌}
+use mathlib.Core.Path.{◌∙◌}
+use borrow.Author.Tests.{leb-true, leb-false}
 use Rattle.whole.specs.laws.Stores.{zeroed-length}
 use Rattle.building.specs.held.Holds.{arrays}
-use Rattle.checks.specs.laws.Check.{checked_found, table-length, did_loaded, built-listed, built-shaped}
-use Rattle.checks.specs.laws.Mendable.{found_telling, unmendable_broken, none_broken}
+use Rattle.checks.specs.laws.Check.{checked_found, early-is_broken, none_broken, table-length, did_loaded, built-listed, built-shaped}
 use Rattle.checks.specs.laws.Writes.{table-own, scalars_own, shown_own}
 use borrow.Author.Rules.{rules}
 use Rattle.checks.proofs.check_all.Statement.{statement}
@@ -20,18 +20,19 @@ clear-stamps-requires c κs = search rules
 clear-turned-requires : tie.Need-clear-turned-requires
 clear-turned-requires c κs = search rules
 
-all-mendable-requires : tie.Need-all-mendable-requires
-all-mendable-requires c κs =
+lowest-early-requires : tie.Need-lowest-early-requires
+lowest-early-requires c κs =
     let s = c.before.before.before.before.before.before.before.before in
     let ld = s.requires.0 in
     let sz = s.requires.1 in
-    found_telling ld (checked_found ld sz.findings sz.parts c.before.before.before.before.before.check-rings.ensures)
+    (ld.layout.few, (checked_found ld sz.findings sz.parts c.before.before.before.before.before.check-rings.ensures).size)
 
 built-requires : tie.Need-built-requires
 built-requires c κs =
     let s = c.before.before.before.before.before.before.before.before.before.before in
     let ld = s.requires.0 in
-    (ld.layout, s.requires.1.table, λ t. none_broken ld (sym c.before.all-mendable.ensures ∙ t))
+    let sz = s.requires.1 in
+    (ld.layout, sz.table, λ t. none_broken ld sz.findings sz.parts c.before.before.before.before.before.before.before.check-rings.ensures _ c.before.lowest-early.ensures (leb-true _ _ t))
 
 held-shape-requires : tie.Need-held-shape-requires
 held-shape-requires c κs =
@@ -52,17 +53,19 @@ returns c =
     let ch = c.before.before.before.before.before.before.before.before.before.before.before.check-rings.ensures in
     let st = c.before.before.before.before.before.before.before.before.before.clear-stamps.ensures in
     let z = c.before.before.before.before.before.before.before.clear-turned.ensures in
-    let m = c.before.before.before.before.before.all-mendable.ensures in
+    let low = c.before.before.before.before.before.lowest-early.ensures in
     let b = c.before.before.before.built.ensures in
     let h = c.held-shape.ensures in (
       did_loaded (arrays a.points.now a.entries.now a.starts.now a.firsts.now a.stamps.now a.findings.now a.parts.now a.table.now a.turned.now) a.s ld sz ch st z (table-length a.entries.now a.starts.now a.firsts.now a.s.polygons a.table.now _ ld.layout sz.table b.table_is) _ _ _
           (built-listed (arrays a.points.now a.entries.now a.starts.now a.firsts.now a.stamps.now a.findings.now a.parts.now a.table.now a.turned.now) a.s ld sz a.table.now _ _ _ _ _ b z)
-          (built-shaped (arrays a.points.now a.entries.now a.starts.now a.firsts.now a.stamps.now a.findings.now a.parts.now a.table.now a.turned.now) a.s ld sz a.table.now _ _ _ _ _ b z (λ t. none_broken ld (sym m ∙ t)) (λ t. unmendable_broken a.entries.now a.starts.now a.firsts.now a.s.polygons (sym m ∙ t))) h.1 h.0,
+          (built-shaped (arrays a.points.now a.entries.now a.starts.now a.firsts.now a.stamps.now a.findings.now a.parts.now a.table.now a.turned.now) a.s ld sz a.table.now _ _ _ _ _ b z (λ t. none_broken ld sz.findings sz.parts ch _ low (leb-true _ _ t)) (λ t. early-is_broken ld sz.findings sz.parts ch _ low (leb-false _ _ t))) h.1 h.0,
       record {
         stamps = st;
         turned = z;
         each = ch;
-        table = table-own (arrays a.points.now a.entries.now a.starts.now a.firsts.now a.stamps.now a.findings.now a.parts.now a.table.now a.turned.now) a.s h.0 m b;
+        low = _;
+        early = low;
+        table = table-own (arrays a.points.now a.entries.now a.starts.now a.firsts.now a.stamps.now a.findings.now a.parts.now a.table.now a.turned.now) a.s h.0 b;
         scalars = scalars_own (arrays a.points.now a.entries.now a.starts.now a.firsts.now a.stamps.now a.findings.now a.parts.now a.table.now a.turned.now) a.s h.0;
         shown = shown_own (arrays a.points.now a.entries.now a.starts.now a.firsts.now a.stamps.now a.findings.now a.parts.now a.table.now a.turned.now) a.s h.0 _ _ h.1;
       },
@@ -75,7 +78,7 @@ check-all-spec =
     check-rings-requires
     clear-stamps-requires
     clear-turned-requires
-    all-mendable-requires
+    lowest-early-requires
     built-requires
     held-shape-requires
     returns)

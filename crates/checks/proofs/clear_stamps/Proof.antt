@@ -10,13 +10,13 @@ use Rattle.checks.proofs.clear_stamps.Statement.{statement}
 use Rattle.checks.proofs.clear_stamps.Tie as tie
 
 abbrev invariant-loop : tie.invariant-loop
-invariant-loop stamps₀ n p₀ stamps p = (length stamps₀ ≡ 256) × ((p ≤ n) × (stamps ≡ zeroed stamps₀ p))
+invariant-loop stamps₀ p₀ stamps p = (length stamps₀ ≡ 256) × ((p ≤ 256) × (stamps ≡ zeroed stamps₀ p))
 
 abbrev decreases-loop : tie.decreases-loop
-decreases-loop stamps₀ n p₀ stamps p = n - p
+decreases-loop stamps₀ p₀ stamps p = 256 - p
 
 loop-holds : tie.Need-loop-init invariant-loop decreases-loop
-loop-holds c = (c.requires.0, (search rules, zeroed-none c.args.stamps.now))
+loop-holds c = (c.requires, (search rules, zeroed-none c.args.stamps.now))
 
 mul-stamps : tie.Need-overflow-mul-stamps invariant-loop decreases-loop
 mul-stamps c = search rules
@@ -38,7 +38,7 @@ loop-again c =
 returns : tie.Need-returns invariant-loop decreases-loop
 returns c =
     let lp = c.before.loop in
-    let e : lp.p ≡ c.before.before.args.n = omega arith in
+    let e : lp.p ≡ 256 = omega arith in
     lp.invariant.1.1 ∙ ap (zeroed c.before.before.args.stamps.now) e
 
 pub clear-stamps-spec : {M : Type 1} → statement M

@@ -1,12 +1,18 @@
 -- End of load: what is kept is what the definitions give for the loaded tables.
-use Rattle.std.specs.Prelude.{ℕ, zero, suc, ◌+◌, ◌-◌, ◌≤◌, ◌≡◌, Bool, true, false, List, ◌++◌, map, ◌⊎◌, length, get_or, take, drop, ℤ, pos}
-use Rattle.std.proofs.Common.{arith, sym, ap, ◌∙◌, inl, inr, length-append, length-drop}
+use Rattle.std.specs.Prelude.{ℕ, zero, suc, ◌+◌, ◌-◌, ◌%◌, ◌≤◌, ◌<◌, ◌≡◌, refl, Bool, true, false, ◌&&◌, List, ◌++◌, map, ◌⊎◌, ltb, leb, length, get_or, take, drop, ℤ, pos}
+use Rattle.std.proofs.Common.{arith, sym, ap, ap₂, ◌∙◌, subst, true≢false, inl, inr, ltb-true, ltb-false, leb-true, le-leb, length-append, length-drop}
+use Rattle.std.proofs.lemmas.Bool.{false≢true}
+use Rattle.whole.specs.laws.Bools.{none_of}
 use Rattle.whole.specs.laws.Stores.{cases, upto_done, length-upto}
 use Rattle.whole.specs.held.Stored.{zeroed}
+use Rattle.polygon.specs.Ring.{is_short, finding_number_of}
+use Rattle.inner.specs.Finding.{finding}
+use Rattle.ring.specs.Entries.{is_unclosed, is_repeated}
+use Rattle.space.specs.held.Points.{points_of}
 use Rattle.shell.specs.declared.Shape.{Shape}
 use Rattle.whole.specs.laws.Spans.{length-span}
 use Rattle.ring.specs.Polygon.{Polygon}
-use Rattle.ring.specs.held.Rings.{polygon_at, polygons, Layout, owner_of}
+use Rattle.ring.specs.held.Rings.{ring_at, polygon_at, polygons, Layout, owner_of}
 use Rattle.edges.specs.held.Table.{step_word, ring_words_of, words_to, words_of, table_of}
 use Rattle.edges.specs.Order.{ascending}
 use Rattle.edges.specs.laws.Ascending.{length-ascending}
@@ -15,10 +21,58 @@ use Rattle.shell.specs.laws.EdgedLaws.{listed-built, edged_built}
 use Rattle.building.specs.declared.Scalars.{Scalars}
 use Rattle.building.specs.Tables.{loaded}
 use Rattle.building.specs.laws.Lists.{tab_ext, take_is_tab, map-tab}
-use Rattle.building.specs.held.Holds.{Arrays, arrays, held_tables, held_building, Loaded, Sizes, Found, Summed, Broken, Shown, Did}
+use Rattle.building.specs.held.Holds.{is_broken, Arrays, arrays, held_tables, held_building, Loaded, Sizes, Found, Summed, Broken, Shown, Did}
+use Rattle.building.specs.laws.Findings.{Early, one_broken, broken_one, kept_number}
+use Rattle.building.specs.laws.Rings.{one_each, rings-many}
+use Rattle.building.specs.laws.Sound.{sound_of}
 use Rattle.renew.specs.held.Renewed.{kept_at, part_at}
 use Rattle.checks.specs.held.Steps.{Checked}
+use Rattle.checks.specs.held.Early.{is_early_of, NoneEarly, EarlyAt}
 use Rattle.checks.specs.laws.Steps.{zeroed-all}
+
+early_yes : (k : ℕ) → is_early_of k ≡ true → Early (k % 16)
+early_yes k e = go (leb 1 n) refl (leb n 3) refl e
+  where
+    n : ℕ
+    n = k % 16
+
+    go : (a : Bool) → leb 1 n ≡ a → (b : Bool) → leb n 3 ≡ b → (a && b) ≡ true → Early n
+    go true p true q e = record { least = leb-true 1 n p; most = leb-true n 3 q }
+    go true p false q e = absurd (false≢true e)
+    go false p b q e = absurd (false≢true e)
+
+early_no : (k : ℕ) → is_early_of k ≡ false → Early (k % 16) → ⊥
+early_no k e y = true≢false (sym (ap₂ (λ (a b : Bool). a && b) (le-leb 1 (k % 16) y.least) (le-leb (k % 16) 3 y.most)) ∙ e)
+
+module _ (l : List ℕ) (n : ℕ) where
+  pub early-none : NoneEarly l n 0
+  early-none = record { passed = omega arith; before = λ p h. absurd (never p h) }
+    where
+      never : (p : ℕ) → p < 0 → ⊥
+      never p h = omega arith
+
+  pub early_more : (i : ℕ) → NoneEarly l n i → i < n → is_early_of (get_or l i 0) ≡ false → NoneEarly l n (i + 1)
+  early_more i s h f =
+      record {
+        passed = omega arith;
+        before = λ p g. cases (ltb p i)
+            (λ t. s.before p (ltb-true p i t))
+            (λ t. let q : p ≡ i = omega (arith, ltb-false p i t) in subst (λ (k : ℕ). is_early_of (get_or l k 0) ≡ false) (sym q) f);
+      }
+
+  pub early_found : (i : ℕ) → NoneEarly l n i → is_early_of (get_or l i 0) ≡ true → EarlyAt l n i
+  early_found i s e = record { none = s; here = λ g. e }
+
+  pub early_done : (i : ℕ) → NoneEarly l n i → n ≤ i → EarlyAt l n i
+  early_done i s h = record { none = s; here = λ g. absurd (clash i n g h) }
+    where
+      clash : (i n : ℕ) → i < n → n ≤ i → ⊥
+      clash i n g h = omega arith
+
+-- ---- a ring that fails none of them is one that the shell's table takes
+whole_sound : (ring : List ℕ) → is_broken ring ≡ false → S.Sound ring
+unfolding is_broken
+whole_sound ring e = let n = none_of (is_short ring) (is_unclosed ring) (is_repeated ring) e in sound_of ring n.0 n.1 n.2
 
 -- ---- the table keeps its size
 
@@ -60,18 +114,49 @@ module _ {points : List ℤ} {entries starts firsts : List ℕ} {s : Scalars} (l
         each = λ p h. ap (λ (l : List ℤ). get_or l p (pos 0)) ch.summed ∙ upto_done (λ p _. part_at points entries starts firsts p) (pos 0) parts s.polygons p h (omega (arith, ld.layout.few));
       }
 
+  number_at : (p : ℕ) → p < s.polygons → get_or findings' p 0 % 16 ≡ finding_number_of (finding s.tolerance (points_of points) (polygon_at entries starts firsts p))
+  number_at p h = kept_number (finding s.tolerance (points_of points) (polygon_at entries starts firsts p)) (checked_found.each p h)
+
+  -- some ring is broken
+  pub early-is_broken : (r : ℕ) → EarlyAt findings' s.polygons r → r < s.polygons → Broken entries starts firsts s.polygons
+  early-is_broken r e h =
+      record {
+        polygon = r;
+        below = h;
+        broken = one_broken s.tolerance (points_of points) (polygon_at entries starts firsts r) (ring_at entries starts r) (one_each ld r h) (subst Early (number_at r h) (early_yes (get_or findings' r 0) (e.here h)));
+      }
+
+  -- none is: the shell's table takes them all
+  pub none_broken : (r : ℕ) → EarlyAt findings' s.polygons r → s.polygons ≤ r → S.Loaded entries starts firsts s.polygons
+  none_broken r e h =
+      record {
+        points = s.points;
+        layout = ld.layout;
+        held = ld.entered;
+        sound = λ p g. let k : p < s.polygons = omega (arith, rings-many ld) in whole_sound (ring_at entries starts p) (subst (λ (q : ℕ). is_broken (ring_at entries starts q) ≡ false) (ld.ones p (omega arith)) (whole p k (is_broken (polygon_at entries starts firsts p).outer) refl));
+        apart = λ p q t i j g f u v a b c. absurd (alone p q t g f u v);
+      }
+    where
+      whole : (p : ℕ) → p < s.polygons → (b : Bool) → is_broken (polygon_at entries starts firsts p).outer ≡ b → b ≡ false
+      whole p g false q = refl
+      whole p g true q = absurd (early_no (get_or findings' p 0) (e.none.before p (omega arith)) (subst Early (sym (number_at p g)) (broken_one s.tolerance (points_of points) (polygon_at entries starts firsts p) (ring_at entries starts p) (one_each ld p g) q)))
+
+      -- a polygon of one ring has no second
+      alone : (p q t : ℕ) → p < s.polygons → get_or firsts p 0 ≤ q → q < t → t < get_or firsts (p + 1) 0 → ⊥
+      alone p q t g f u v = omega (arith, ld.ones p (omega arith), ld.ones (p + 1) (omega arith))
+
 -- all stamps are 0
-stamps_none : (entries starts firsts : List ℕ) (n : ℕ) (stamps : List ℕ) → length stamps ≡ 256 → n ≤ 256 → take n (zeroed stamps n) ≡ map (λ (p : Polygon). 0) (polygons entries starts firsts n)
+stamps_none : (entries starts firsts : List ℕ) (n : ℕ) (stamps : List ℕ) → length stamps ≡ 256 → n ≤ 256 → take n (zeroed stamps 256) ≡ map (λ (p : Polygon). 0) (polygons entries starts firsts n)
 unfolding polygons
 stamps_none entries starts firsts n stamps h few =
-    take_is_tab (zeroed stamps n) n 0 (omega (arith, length-upto (λ p old. 0) 0 stamps n))
-    ∙ tab_ext (λ p. get_or (zeroed stamps n) p 0) (λ p. 0) n (λ p g. upto_done (λ p old. 0) 0 stamps n p g (omega arith))
+    take_is_tab (zeroed stamps 256) n 0 (omega (arith, length-upto (λ p old. 0) 0 stamps 256))
+    ∙ tab_ext (λ p. get_or (zeroed stamps 256) p 0) (λ p. 0) n (λ p g. zeroed-all stamps h p)
     ∙ sym (map-tab (λ (p : Polygon). 0) (polygon_at entries starts firsts) n)
 
 module _ (a : Arrays) (s : Scalars) (ld : Loaded a.points a.entries a.starts a.firsts s) (sz : Sizes a) where
   pub did_loaded : {findings' : List ℕ} {parts' : List ℤ} {stamps' turned' table' : List ℕ}
       → Checked s.tolerance a.points a.entries a.starts a.firsts s.polygons a.findings a.parts findings' parts'
-      → stamps' ≡ zeroed a.stamps s.polygons
+      → stamps' ≡ zeroed a.stamps 256
       → turned' ≡ zeroed a.turned 256
       → length table' ≡ 1024
       → (edges : ℕ) (fixed shape : Shape)
@@ -90,8 +175,8 @@ module _ (a : Arrays) (s : Scalars) (ld : Loaded a.points a.entries a.starts a.f
       rw (e, f, g)
       (record {
         held = record {
-          loaded = record { coords = ld.coords; first = ld.first; layout = ld.layout; entered = ld.entered; tolerant = ld.tolerant; short = ld.short };
-          stamped = length-upto (λ p old. 0) 0 a.stamps s.polygons ∙ sz.stamps;
+          loaded = record { coords = ld.coords; first = ld.first; layout = ld.layout; ones = ld.ones; entered = ld.entered; tolerant = ld.tolerant; short = ld.short };
+          stamped = length-upto (λ p old. 0) 0 a.stamps 256 ∙ sz.stamps;
           kept = record {
             found = record { size = fo.size; each = fo.each };
             summed = record { size = su.size; each = su.each };

@@ -8,10 +8,8 @@ use Rattle.building.specs.held.Holds.{Arrays, Shown}
 use Rattle.checks.specs.held.Writes.{checked}
 
 module _ (a : Arrays) (s : Scalars) {edges : ℕ} {fixed shape : Shape} {r : Scalars} (e : r ≡ checked s edges fixed shape) where
-  pub table-own : {sound told : Bool} {table' : List ℕ} → sound ≡ told → Built a.entries a.starts a.firsts s.polygons a.table table' edges sound fixed → Built a.entries a.starts a.firsts s.polygons a.table table' r.edges told r.fixed
-  table-own {told = told} {table' = table'} q b =
-      subst (λ (x : Scalars). Built a.entries a.starts a.firsts s.polygons a.table table' x.edges told x.fixed) (sym e)
-      (subst (λ (t : Bool). Built a.entries a.starts a.firsts s.polygons a.table table' edges t fixed) q b)
+  pub table-own : {sound : Bool} {table' : List ℕ} → Built a.entries a.starts a.firsts s.polygons a.table table' edges sound fixed → Built a.entries a.starts a.firsts s.polygons a.table table' r.edges sound r.fixed
+  table-own {sound} {table'} b = subst (λ (x : Scalars). Built a.entries a.starts a.firsts s.polygons a.table table' x.edges sound x.fixed) (sym e) b
 
   -- the scalars are told by their own edges and shapes
   pub scalars_own : r ≡ checked s r.edges r.fixed r.shape

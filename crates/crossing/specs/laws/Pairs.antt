@@ -108,11 +108,11 @@ module _ (us vs : List ℤ) (m : ℕ) where
       row-some t j (n - j) (omega arith) (λ k g h. f k g (omega arith)) ∙ ap (λ (n : ℕ). any t (drop n edges)) z
 
   -- what is found from a later edge on is found from an earlier one on
-  pub row-back-to : (t : ℕ × Segment → Bool) (j d : ℕ) → j + d < m → any t (drop (j + d) edges) ≡ true → any t (drop j edges) ≡ true
-  row-back-to t j zero h e = let z : j ≡ j + 0 = omega arith in ap (λ (n : ℕ). any t (drop n edges)) z ∙ e
-  row-back-to t j (suc d) h e =
+  pub row-back_to : (t : ℕ × Segment → Bool) (j d : ℕ) → j + d < m → any t (drop (j + d) edges) ≡ true → any t (drop j edges) ≡ true
+  row-back_to t j zero h e = let z : j ≡ j + 0 = omega arith in ap (λ (n : ℕ). any t (drop n edges)) z ∙ e
+  row-back_to t j (suc d) h e =
       let z : j + d + 1 ≡ j + suc d = omega arith in
-      row-back-to t j d (omega arith) (row_back t (j + d) (omega arith) (ap (λ (n : ℕ). any t (drop n edges)) z ∙ e))
+      row-back_to t j d (omega arith) (row_back t (j + d) (omega arith) (ap (λ (n : ℕ). any t (drop n edges)) z ∙ e))
 
   -- ---- all rows
   -- whether edge i and a later one have in common what they may not

@@ -89,11 +89,11 @@ module _ {d : Desk} {same : Arrays → Type 0} {f : Frame} {fits : Type 0} where
   pub refused : (r : Refusal) → is_accepted_of r ≡ false → ((a : Arrays) → same a → Valid a d → r ≡ refusal (service a d) f) → Row d same f fits r
   refused r e h = record { is = h; fit = λ t. absurd (true≢false (sym t ∙ e)) }
 
-  pub not_loading : is_malformed f ≡ false → ((st : State) → is_loading_of st ≡ false → is_misplaced_of st f ≡ true) → loads d.mode ≡ false → Row d same f fits Misplaced
+  pub not_loading : is_malformed f ≡ false → ((st : State) → is_misplaced_of st f ≡ not (is_loading_of st)) → loads d.mode ≡ false → Row d same f fits Misplaced
   unfolding is_accepted_of service
   not_loading m k e =
       refused Misplaced refl
-      (λ a s v. misplaced (service a d) f m (k (service a d) (no_load d.mode (tables a d) (held_building a d.held) e)))
+      (λ a s v. misplaced (service a d) f m (k (service a d) ∙ ap not (no_load d.mode (tables a d) (held_building a d.held) e)))
 
   pub not_holding : is_malformed f ≡ false → ((st : State) → is_misplaced_of st f ≡ not (is_holding_of st)) → holds d.mode ≡ false → Row d same f fits Misplaced
   unfolding is_accepted_of service

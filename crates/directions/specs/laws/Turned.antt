@@ -89,8 +89,8 @@ module _ {ps ps' : List Polygon} (x : Turned ps ps') where
   edge_of : (e p : ℕ) → In e (edges_at ps p) → In e (edges_at ps' p)
   edge_of e p = same_in (edges_at ps p) (edges_at ps' p) (λ t. sym (edge_tallies x p t)) e
 
-  entry-to : (v p : ℕ) → In v (entries_from (nth ps' p)) → In v (entries_from (nth ps p))
-  entry-to v p = same_in (entries_from (nth ps' p)) (entries_from (nth ps p)) (entry_tallies x p) v
+  entry_to : (v p : ℕ) → In v (entries_from (nth ps' p)) → In v (entries_from (nth ps p))
+  entry_to v p = same_in (entries_from (nth ps' p)) (entries_from (nth ps p)) (entry_tallies x p) v
 
   entry_of : (v p : ℕ) → In v (entries_from (nth ps p)) → In v (entries_from (nth ps' p))
   entry_of v p = same_in (entries_from (nth ps p)) (entries_from (nth ps' p)) (λ t. sym (entry_tallies x p t)) v
@@ -109,8 +109,8 @@ module _ {ps ps' : List Polygon} (x : Turned ps ps') where
       (λ p u. record { within = subst (λ (k : ℕ). p < k) (length-turned x) u.within; cut = λ t. u.cut (reach_by shares_of t) })
       (λ p u. record { within = subst (λ (k : ℕ). p < k) (sym (length-turned x)) u.within; cut = λ t. u.cut (reach_by shares_to t) })
 
-  around-to : (v p q : ℕ) → Around ps' v p q → Around ps v p q
-  around-to v p q s = record { has_p = entry-to v p s.has_p; has_q = entry-to v q s.has_q; by = s.by; ends = s.ends; mine = edge_to s.by p s.mine; theirs = edge_to s.by q s.theirs }
+  around_to : (v p q : ℕ) → Around ps' v p q → Around ps v p q
+  around_to v p q s = record { has_p = entry_to v p s.has_p; has_q = entry_to v q s.has_q; by = s.by; ends = s.ends; mine = edge_to s.by p s.mine; theirs = edge_to s.by q s.theirs }
 
   around-of : (v p q : ℕ) → Around ps v p q → Around ps' v p q
   around-of v p q s = record { has_p = entry_of v p s.has_p; has_q = entry_of v q s.has_q; by = s.by; ends = s.ends; mine = edge_of s.by p s.mine; theirs = edge_of s.by q s.theirs }
@@ -120,8 +120,8 @@ module _ {ps ps' : List Polygon} (x : Turned ps ps') where
       is_same
       (unlinked_is ps')
       (unlinked_is ps)
-      (λ v c. record { here = c.here; there = c.there; has_here = entry-to v c.here c.has_here; has_there = entry-to v c.there c.has_there; apart = λ t. c.apart (reach_by (around-of v) t) })
-      (λ v c. record { here = c.here; there = c.there; has_here = entry_of v c.here c.has_here; has_there = entry_of v c.there c.has_there; apart = λ t. c.apart (reach_by (around-to v) t) })
+      (λ v c. record { here = c.here; there = c.there; has_here = entry_to v c.here c.has_here; has_there = entry_to v c.there c.has_there; apart = λ t. c.apart (reach_by (around-of v) t) })
+      (λ v c. record { here = c.here; there = c.there; has_here = entry_of v c.here c.has_here; has_there = entry_of v c.there c.has_there; apart = λ t. c.apart (reach_by (around_to v) t) })
 
   -- all of them
   pub fixed_turned : fixed_shape ps' ≡ fixed_shape ps

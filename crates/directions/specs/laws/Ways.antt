@@ -225,8 +225,8 @@ module _ (es st ft : List ℕ) (n : ℕ) (l : Loaded es st ft n) (flags : List �
   now = turned_polygons es st ft n flags
 
   -- the rings of a polygon under its flag
-  turned_rings_lem : (p : ℕ) → p < n → rings_of (turn (get_or flags p 0) (polygon_at es st ft p)) ≡ span ring_now (get_or ft p 0) (get_or ft (p + 1) 0 - get_or ft p 0)
-  turned_rings_lem p h =
+  turned-rings : (p : ℕ) → p < n → rings_of (turn (get_or flags p 0) (polygon_at es st ft p)) ≡ span ring_now (get_or ft p 0) (get_or ft (p + 1) 0 - get_or ft p 0)
+  turned-rings p h =
       turn_each (get_or flags p 0) (polygon_at es st ft p)
       ∙ (ap (map (turn_ring_of (get_or flags p 0))) (rings-at es st ft n l.layout p h)
       ∙ (map-span (turn_ring_of (get_or flags p 0)) (ring_at es st) (get_or ft p 0) (get_or ft (p + 1) 0 - get_or ft p 0)
@@ -237,7 +237,7 @@ module _ (es st ft : List ℕ) (n : ℕ) (l : Loaded es st ft n) (flags : List �
 
   rings-now : all_rings now ≡ tab ring_now rings
   unfolding turned_polygons
-  rings-now = rings-told es st ft n l.layout (λ p. turn (get_or flags p 0) (polygon_at es st ft p)) ring_now turned_rings_lem
+  rings-now = rings-told es st ft n l.layout (λ p. turn (get_or flags p 0) (polygon_at es st ft p)) ring_now turned-rings
 
   -- a way is gone by as many words as it is gone by the rings
   goes_is : (x : ℕ) → goes (all_rings now) x ≡ tally (λ w. eqb x (way_now flags w)) table

@@ -48,9 +48,6 @@ read-turn-requires c κs = sym c.before.before.before.all-hex.ensures ∙ not-fa
 read-question-requires : tie.Need-read-question-requires
 read-question-requires c κs = sym c.before.before.before.all-hex.ensures ∙ not-false _ c.before.before.if2.false
 
-read-inner-requires : tie.Need-read-inner-requires
-read-inner-requires c κs = search rules
-
 read-across-requires : tie.Need-read-across-requires
 read-across-requires c κs = sym c.before.before.before.all-hex.ensures ∙ not-false _ c.before.before.if2.false
 
@@ -100,20 +97,14 @@ returns-10 : tie.Need-returns-10
 unfolding kind_of
 returns-10 c =
     let hex = sym c.before.before.before.before.all-hex.ensures ∙ not-false _ c.before.before.before.if2.false in
-    c.read-inner.ensures ∙ decode_kind _ Kind.inner hex c.before.before.unsigned.ensures.0 (ap kind_of c.before.match.keys8)
+    c.read-across.ensures ∙ decode_kind _ Kind.across hex c.before.before.unsigned.ensures.0 (ap kind_of c.before.match.keys8)
 
 returns-11 : tie.Need-returns-11
-unfolding kind_of
-returns-11 c =
-    let hex = sym c.before.before.before.before.all-hex.ensures ∙ not-false _ c.before.before.before.if2.false in
-    c.read-across.ensures ∙ decode_kind _ Kind.across hex c.before.before.unsigned.ensures.0 (ap kind_of c.before.match.keys9)
-
-returns-12 : tie.Need-returns-12
 unfolding meaning
-returns-12 c =
+returns-11 c =
     let hex = sym c.before.before.before.all-hex.ensures ∙ not-false _ c.before.before.if2.false in
     let r = c.match.rest in
-    decode_unknown _ hex c.before.unsigned.ensures.0 (kind_unknown c.before.unsigned.result r.0.0.0.0.0.0.0.0.1 r.0.0.0.0.0.0.0.1 r.0.0.0.0.0.0.1 r.0.0.0.0.0.1 r.0.0.0.0.1 r.0.0.0.1 r.0.0.1 r.0.1 r.1)
+    decode_unknown _ hex c.before.unsigned.ensures.0 (kind_unknown c.before.unsigned.result r.0.0.0.0.0.0.0.1 r.0.0.0.0.0.0.1 r.0.0.0.0.0.1 r.0.0.0.0.1 r.0.0.0.1 r.0.0.1 r.0.1 r.1)
 
 pub decode-spec : {M : Type 1} → statement M
 decode-spec =
@@ -130,7 +121,6 @@ decode-spec =
     read-move-requires
     read-turn-requires
     read-question-requires
-    read-inner-requires
     read-across-requires
     returns-3
     returns-4
@@ -140,5 +130,4 @@ decode-spec =
     returns-8
     returns-9
     returns-10
-    returns-11
-    returns-12)
+    returns-11)

@@ -3,7 +3,7 @@ use Rattle.std.specs.Prelude.{ℕ, zero, suc, ◌<◌, ◌≡◌, true, cond, Li
 use Rattle.hex.specs.Hex.{all_hex_of}
 use Rattle.frame.specs.Frame.{Frame, Kind, fits, numbers, filled}
 use Rattle.frame.specs.declared.Fields.{Fields}
-use Rattle.frame.specs.declared.Fields.TheVariants.{Begin, Point, Polygon, EndOfLoad, Move, Turn, Question, Inner, Across, Broken}
+use Rattle.frame.specs.declared.Fields.TheVariants.{Begin, Point, Polygon, EndOfLoad, Move, Turn, Question, Across, Broken}
 
 -- the first n numbers of a list, 0 past its end: a list of n numbers, so that the count is told too
 unfoldable pub counted : ℕ → List ℕ → List ℕ
@@ -20,11 +20,10 @@ meaning EndOfLoad l = Frame.end_of_load
 meaning (Move number p x y z) l = Frame.move number p x y z
 meaning (Turn number p) l = Frame.turn number p
 meaning (Question p) l = Frame.question p
-meaning (Inner n) l = Frame.inner (counted n (numbers (drop 2 l)))
 meaning (Across a b) l = Frame.across a b
 meaning Broken l = Frame.broken
 
--- the line of a frame with a ring has an i-th point number
+-- the line of a polygon frame has an i-th point number
 pub record Listed (l : List ℕ) (i : ℕ) : Type 0 where
   pub hex : all_hex_of l ≡ true
   pub below : i < length (numbers (drop 2 l))

@@ -11,7 +11,7 @@ use Rattle.std.proofs.Math.Dec.{ltb}
 use Rattle.std.proofs.Math.ListN.{length, length-drop}
 use Rattle.std.proofs.Math.Seq.{append_snoc}
 use Rattle.hex.specs.Hex.{is_hex_of, all_hex_of, digit_value_of, number_from, number, signed32, digit, digits, bits32}
-use Rattle.frame.specs.Frame.{begin, point, polygon, end_of_load, move, turn, question, inner, across, broken, Kind, kind_of, kind_named, fits_ring_of, fits, unsigned, coordinate, numbers, filled, decode}
+use Rattle.frame.specs.Frame.{begin, point, polygon, end_of_load, move, turn, question, across, broken, Kind, kind_of, kind_named, fits, unsigned, coordinate, numbers, filled, decode}
 use Rattle.frame.specs.Encode.{four_each, eight, encode}
 use Rattle.whole.specs.laws.Bools.{and_left, and_right, or_cases}
 use Rattle.hex.specs.laws.Back.{number_from_append}
@@ -141,7 +141,6 @@ kind_number Kind.end_of_load = 4
 kind_number Kind.move = 5
 kind_number Kind.turn = 6
 kind_number Kind.question = 7
-kind_number Kind.inner = 8
 kind_number Kind.across = 12
 kind_number Kind.unknown = 0
 
@@ -160,8 +159,7 @@ kind_named_lem : (n : ℕ) → Named n (kind_of n)
 unfolding kind_of kind_number Named
 kind_named_lem n =
     named_or n 1 Kind.begin _ refl (named_or n 2 Kind.point _ refl (named_or n 3 Kind.polygon _ refl (named_or n 4 Kind.end_of_load _ refl
-    (named_or n 5 Kind.move _ refl (named_or n 6 Kind.turn _ refl (named_or n 7 Kind.question _ refl (named_or n 8 Kind.inner _ refl
-    (named_or n 12 Kind.across _ refl (inl refl)))))))))
+    (named_or n 5 Kind.move _ refl (named_or n 6 Kind.turn _ refl (named_or n 7 Kind.question _ refl (named_or n 12 Kind.across _ refl (inl refl))))))))
 
 -- ---- lines
 
@@ -172,13 +170,6 @@ module _ (l : List ℕ) (h : all_hex_of l ≡ true) where
   after : (n : ℕ) → length l ≡ n → length (drop 2 l) ≡ n - 2
   after n e = length-drop 2 l ∙ ap (λ (m : ℕ). m - 2) e
 
-  -- the kind, and the ring after it
-  ring_line : (n : ℕ) → fits_ring_of (length l) ≡ true → number (take 2 l) ≡ n → digits 2 n ++ four_each (numbers (drop 2 l)) ≡ l
-  ring_line n f e =
-      let g : length l % 4 ≡ 2 = eqb-true (length l % 4) 2 (and_right (leb (length l) 514) (eqb (length l % 4) 2) f) in
-      let d : length (drop 2 l) ≡ length l - 2 = length-drop 2 l in
-      kind_back n _ e (omega arith) (ring_back (drop 2 l) (all_hex-drop 2 l h) (omega arith))
-
   filled-back : (k : Kind) → fits k (length l) ≡ true → number (take 2 l) ≡ kind_number k → encode (filled k (drop 2 l)) ≡ l
   unfolding fits kind_number filled encode unsigned coordinate
   filled-back Kind.begin f e =
@@ -187,7 +178,10 @@ module _ (l : List ℕ) (h : all_hex_of l ≡ true) where
   filled-back Kind.point f e =
       let g : length l ≡ 26 = eqb-true (length l) 26 f in
       kind_back 2 _ e (omega arith) (place-back (drop 2 l) (all_hex-drop 2 l h) (after 26 g))
-  filled-back Kind.polygon f e = ring_line 3 f e
+  filled-back Kind.polygon f e =
+      let g : length l % 4 ≡ 2 = eqb-true (length l % 4) 2 (and_right (leb (length l) 514) (eqb (length l % 4) 2) f) in
+      let d : length (drop 2 l) ≡ length l - 2 = length-drop 2 l in
+      kind_back 3 _ e (omega arith) (ring_back (drop 2 l) (all_hex-drop 2 l h) (omega arith))
   filled-back Kind.end_of_load f e =
       let g : length l ≡ 2 = eqb-true (length l) 2 f in
       ap (digits 2) (sym e) ∙ last-back 2 l h g
@@ -213,7 +207,6 @@ module _ (l : List ℕ) (h : all_hex_of l ≡ true) where
   filled-back Kind.question f e =
       let g : length l ≡ 6 = eqb-true (length l) 6 f in
       kind_back 7 _ e (omega arith) (last-back 4 (drop 2 l) (all_hex-drop 2 l h) (after 6 g))
-  filled-back Kind.inner f e = ring_line 8 f e
   filled-back Kind.across f e =
       let g : length l ≡ 10 = eqb-true (length l) 10 f in
       let h₁ : all_hex_of (drop 2 l) ≡ true = all_hex-drop 2 l h in

@@ -1,19 +1,18 @@
 -- Laws of the decoder: what its answer says, kind by kind, and that the line's frame settles the answer.
-use Rattle.std.specs.Prelude.{ℕ, zero, suc, ◌+◌, ◌*◌, ◌-◌, ◌/◌, ◌%◌, ◌≤◌, ◌<◌, ◌≡◌, Bool, true, cond, ◌&&◌, leb, eqb, ℤ, length, take, get_or}
-use Rattle.std.proofs.Common.{arith, ◌∙◌, eq-eqb, ne_eqb, eqb-true, le-leb, length-drop}
+use Rattle.std.specs.Prelude.{ℕ, zero, suc, ◌+◌, ◌*◌, ◌-◌, ◌/◌, ◌%◌, ◌≤◌, ◌<◌, ◌≡◌, Bool, true, cond, ◌&&◌, ℤ, take, get_or}
+use Rattle.std.proofs.Common.{arith, ◌∙◌}
 use Rattle.std.proofs.Math.Path.{refl, sym, ap}
 use Rattle.std.proofs.Math.Bool.{false}
 use mathlib.Core.List.{List, [], ◌∷◌}
-use Rattle.std.proofs.Math.Option.{Option, none, some, some-injective, none-ne-some}
-use Rattle.std.proofs.lemmas.Bool.{lt-leb}
-use Rattle.std.proofs.Math.ListN.{drop}
+use borrow.Author.Tests.{eq-eqb, ne_eqb, le-leb, lt-leb}
+use Rattle.std.proofs.Math.ListN.{length, drop, length-drop}
 use Rattle.std.proofs.Math.Seq.{drop-drop}
 use Rattle.hex.specs.Hex.{all_hex_of, number, signed32}
-use Rattle.frame.specs.Frame.{Frame, begin, point, polygon, end_of_load, move, turn, question, inner, across, broken, Kind, kind_of, kind_named, fits_ring_of, fits, unsigned, coordinate, numbers, filled, decode}
-use Rattle.whole.specs.laws.Bools.{and_left, and_right, and_false}
-use Rattle.frame.specs.laws.RoundTrip.{numbers_few, fits_few}
+use Rattle.frame.specs.Frame.{Frame, begin, point, polygon, end_of_load, move, turn, question, across, broken, Kind, kind_of, kind_named, fits, unsigned, coordinate, numbers, filled, decode}
+use Rattle.whole.specs.laws.Bools.{and_left, and_false}
+use Rattle.frame.specs.laws.RoundTrip.{numbers_few, decode_well}
 use Rattle.frame.specs.declared.Fields.{Fields}
-use Rattle.frame.specs.declared.Fields.TheVariants.{Begin, Point, Polygon, EndOfLoad, Move, Turn, Question, Inner, Across, Broken}
+use Rattle.frame.specs.declared.Fields.TheVariants.{Begin, Point, Polygon, EndOfLoad, Move, Turn, Question, Across, Broken}
 use Rattle.frame.specs.held.Meaning.{counted, meaning, Listed, shaped}
 
 -- ---- point numbers
@@ -67,13 +66,6 @@ field_of k at l = number (take k (drop at l))
 abbrev pub coordinate-of : ℕ → List ℕ → ℤ
 coordinate-of at l = signed32 (number (take 8 (drop at l)))
 
--- the length of a line with a ring, and one that is too long for it
-pub ring_short : (n : ℕ) → n ≤ 514 → eqb (n % 4) 2 ≡ fits_ring_of n
-ring_short n h = rw (le-leb n 514 h)
-
-pub ring_long : (n : ℕ) → 514 < n → false ≡ fits_ring_of n
-ring_long n h = rw (lt-leb n 514 h)
-
 module _ (l : List ℕ) where
   pub begin_is : {t : ℕ} → length l ≡ 6 → t ≡ field_of 4 2 l → begin t ≡ shaped Kind.begin l
   unfolding fits filled unsigned
@@ -122,40 +114,37 @@ module _ (l : List ℕ) where
       ∙ place_is (move (field_of 8 2 l) (field_of 4 10 l)) 14 a b c
       ∙ rw (← v, ← u) (shaped-filled Kind.move l (eq-eqb (length l) 38 h))
 
-  -- a line with a ring lists a point number for each four of its digits
-  ring_counted : fits_ring_of (length l) ≡ true → counted (length l / 4) (numbers (drop 2 l)) ≡ numbers (drop 2 l)
-  ring_counted h =
-      let g : length l % 4 ≡ 2 = eqb-true (length l % 4) 2 (and_right (leb (length l) 514) (eqb (length l % 4) 2) h) in
+  pub polygon_is : {n : ℕ} → length l ≤ 514 → length l % 4 ≡ 2 → n ≡ (length l - 2) / 4 → polygon (counted n (numbers (drop 2 l))) ≡ shaped Kind.polygon l
+  unfolding fits filled
+  polygon_is {n} h g e =
       let a : length (numbers (drop 2 l)) ≡ length (drop 2 l) / 4 = length-numbers (drop 2 l) in
       let b : length (drop 2 l) ≡ length l - 2 = length-drop 2 l in
-      let e : length l / 4 ≡ length (numbers (drop 2 l)) = omega arith in
-      ap (λ (m : ℕ). counted m (numbers (drop 2 l))) e ∙ counted-all (numbers (drop 2 l))
+      let d : n ≡ length (numbers (drop 2 l)) = e ∙ ap (λ (m : ℕ). m / 4) (sym b) ∙ sym a in
+      ap (λ (m : ℕ). polygon (counted m (numbers (drop 2 l)))) d
+      ∙ ap polygon (counted-all (numbers (drop 2 l)))
+      ∙ shaped-filled Kind.polygon l (rw (le-leb (length l) 514 h, g))
 
-  pub polygon_is : fits_ring_of (length l) ≡ true → polygon (counted (length l / 4) (numbers (drop 2 l))) ≡ shaped Kind.polygon l
-  unfolding fits filled
-  polygon_is h = ap polygon (ring_counted h) ∙ shaped-filled Kind.polygon l h
+  pub polygon-long : 514 < length l → broken ≡ shaped Kind.polygon l
+  unfolding fits
+  polygon-long h = shaped_broken Kind.polygon l (rw (lt-leb (length l) 514 h))
 
-  pub inner_is : fits_ring_of (length l) ≡ true → inner (counted (length l / 4) (numbers (drop 2 l))) ≡ shaped Kind.inner l
-  unfolding fits filled
-  inner_is h = ap inner (ring_counted h) ∙ shaped-filled Kind.inner l h
+  pub polygon-odd : length l ≤ 514 → (length l % 4 ≡ 2 → ⊥) → broken ≡ shaped Kind.polygon l
+  unfolding fits
+  polygon-odd h g = shaped_broken Kind.polygon l (rw (le-leb (length l) 514 h, ne_eqb (length l % 4) 2 g))
 
 -- ---- a line by its kind
-
-short_ring : (n : ℕ) → n < 2 → fits_ring_of n ≡ false
-short_ring n h =
-    let a : n ≤ 514 = omega arith in
-    rw (le-leb n 514 a) (ne_eqb (n % 4) 2 (λ e. omega arith))
 
 short-fits : (k : Kind) (n : ℕ) → n < 2 → fits k n ≡ false
 unfolding fits
 short-fits Kind.begin n h = ne_eqb n 6 (λ e. omega arith)
 short-fits Kind.point n h = ne_eqb n 26 (λ e. omega arith)
-short-fits Kind.polygon n h = short_ring n h
+short-fits Kind.polygon n h =
+    let a : n ≤ 514 = omega arith in
+    rw (le-leb n 514 a) (ne_eqb (n % 4) 2 (λ e. omega arith))
 short-fits Kind.end_of_load n h = ne_eqb n 2 (λ e. omega arith)
 short-fits Kind.move n h = ne_eqb n 38 (λ e. omega arith)
 short-fits Kind.turn n h = ne_eqb n 14 (λ e. omega arith)
 short-fits Kind.question n h = ne_eqb n 6 (λ e. omega arith)
-short-fits Kind.inner n h = short_ring n h
 short-fits Kind.across n h = ne_eqb n 10 (λ e. omega arith)
 short-fits Kind.unknown n h = refl
 
@@ -186,10 +175,10 @@ module _ (l : List ℕ) where
   unfolding shaped fits
   decode_unknown h e g = decode_kind Kind.unknown h e g
 
-pub kind_unknown : (n : ℕ) → (n ≡ 1 → ⊥) → (n ≡ 2 → ⊥) → (n ≡ 3 → ⊥) → (n ≡ 4 → ⊥) → (n ≡ 5 → ⊥) → (n ≡ 6 → ⊥) → (n ≡ 7 → ⊥) → (n ≡ 8 → ⊥) → (n ≡ 12 → ⊥) → kind_of n ≡ Kind.unknown
+pub kind_unknown : (n : ℕ) → (n ≡ 1 → ⊥) → (n ≡ 2 → ⊥) → (n ≡ 3 → ⊥) → (n ≡ 4 → ⊥) → (n ≡ 5 → ⊥) → (n ≡ 6 → ⊥) → (n ≡ 7 → ⊥) → (n ≡ 12 → ⊥) → kind_of n ≡ Kind.unknown
 unfolding kind_of
-kind_unknown n a b c d e f g i h =
-    rw (ne_eqb n 1 a, ne_eqb n 2 b, ne_eqb n 3 c, ne_eqb n 4 d, ne_eqb n 5 e, ne_eqb n 6 f, ne_eqb n 7 g, ne_eqb n 8 i, ne_eqb n 12 h)
+kind_unknown n a b c d e f g h =
+    rw (ne_eqb n 1 a, ne_eqb n 2 b, ne_eqb n 3 c, ne_eqb n 4 d, ne_eqb n 5 e, ne_eqb n 6 f, ne_eqb n 7 g, ne_eqb n 12 h)
 
 -- ---- the frame of a line settles the decoder's answer
 
@@ -201,7 +190,6 @@ fields_of end_of_load = EndOfLoad
 fields_of (move n p x y z) = Move n p x y z
 fields_of (turn n p) = Turn n p
 fields_of (question p) = Question p
-fields_of (inner ring) = Inner (length ring)
 fields_of (across a b) = Across a b
 fields_of broken = Broken
 
@@ -214,7 +202,6 @@ fields_back EndOfLoad l = refl
 fields_back (Move n p x y z) l = refl
 fields_back (Turn n p) l = refl
 fields_back (Question p) l = refl
-fields_back (Inner n) l = ap Inner (length-counted n (numbers (drop 2 l)))
 fields_back (Across a b) l = refl
 fields_back Broken l = refl
 
@@ -225,104 +212,45 @@ meaning_tells r s l e = sym (fields_back r l) ∙ ap fields_of e ∙ fields_back
 pub decoded_as : (l : List ℕ) (r s : Fields) → meaning r l ≡ decode l → r ≡ s → decode l ≡ meaning s l
 decoded_as l r s e p = sym e ∙ ap (λ (x : Fields). meaning x l) p
 
--- ---- the line of a frame with a ring
+-- ---- the line of a polygon frame
 
--- the ring of a frame that has one
-unfoldable pub ring_of : Frame → Option (List ℕ)
-ring_of (begin t) = none
-ring_of (point x y z) = none
-ring_of (polygon ring) = some ring
-ring_of end_of_load = none
-ring_of (move n p x y z) = none
-ring_of (turn n p) = none
-ring_of (question p) = none
-ring_of (inner ring) = some ring
-ring_of (across a b) = none
-ring_of broken = none
+filled_ring : (k : Kind) (ring l : List ℕ) → polygon ring ≡ filled k l → ring ≡ numbers l
+unfolding filled unsigned coordinate
+filled_ring Kind.begin ring l e = cc
+filled_ring Kind.point ring l e = cc
+filled_ring Kind.polygon ring l e = cc
+filled_ring Kind.end_of_load ring l e = cc
+filled_ring Kind.move ring l e = cc
+filled_ring Kind.turn ring l e = cc
+filled_ring Kind.question ring l e = cc
+filled_ring Kind.across ring l e = cc
+filled_ring Kind.unknown ring l e = cc
 
--- a ring of at most 128 numbers, those of the line
-record RingLine (l ring : List ℕ) : Type 0 where
-  is : ring ≡ numbers (drop 2 l)
-  few : length ring ≤ 128
-
-some_ring : (l ring : List ℕ) → fits_ring_of (length l) ≡ true → some ring ≡ some (numbers (drop 2 l)) → RingLine l ring
-some_ring l ring f e =
-    let d : ring ≡ numbers (drop 2 l) = some-injective ring (numbers (drop 2 l)) e in
-    record { is = d; few = omega (arith, ap length d, fits_few l f) }
-
-filled_ring : (k : Kind) (ring l : List ℕ) → fits k (length l) ≡ true → some ring ≡ ring_of (filled k (drop 2 l)) → RingLine l ring
-unfolding fits filled unsigned coordinate ring_of
-filled_ring Kind.begin ring l f e = absurd (none-ne-some ring (sym e))
-filled_ring Kind.point ring l f e = absurd (none-ne-some ring (sym e))
-filled_ring Kind.polygon ring l f e = some_ring l ring f e
-filled_ring Kind.end_of_load ring l f e = absurd (none-ne-some ring (sym e))
-filled_ring Kind.move ring l f e = absurd (none-ne-some ring (sym e))
-filled_ring Kind.turn ring l f e = absurd (none-ne-some ring (sym e))
-filled_ring Kind.question ring l f e = absurd (none-ne-some ring (sym e))
-filled_ring Kind.inner ring l f e = some_ring l ring f e
-filled_ring Kind.across ring l f e = absurd (none-ne-some ring (sym e))
-filled_ring Kind.unknown ring l f e = absurd (none-ne-some ring (sym e))
-
-decode_ring : (ring l : List ℕ) → some ring ≡ ring_of (decode l) → (all_hex_of l ≡ true) × RingLine l ring
-unfolding decode ring_of
+decode_ring : (ring l : List ℕ) → polygon ring ≡ decode l → (all_hex_of l ≡ true) × (ring ≡ numbers (drop 2 l))
+unfolding decode
 decode_ring ring l = go (all_hex_of l && fits (kind_named l) (length l)) refl
   where
-    go : (b : Bool) → (all_hex_of l && fits (kind_named l) (length l)) ≡ b → some ring ≡ ring_of (decode l) → (all_hex_of l ≡ true) × RingLine l ring
-    go true d e = (and_left (all_hex_of l) (fits (kind_named l) (length l)) d, filled_ring (kind_named l) ring l (and_right (all_hex_of l) (fits (kind_named l) (length l)) d) (rw (d, decode) at e))
-    go false d e = absurd (none-ne-some ring (sym (rw (d, decode) at e)))
-
--- n numbers of the line are the ring of its frame
-module _ (l : List ℕ) (n : ℕ) (e : some (counted n (numbers (drop 2 l))) ≡ ring_of (decode l)) where
-  ring_line : (all_hex_of l ≡ true) × RingLine l (counted n (numbers (drop 2 l)))
-  ring_line = decode_ring (counted n (numbers (drop 2 l))) l e
-
-  pub ring_count : n ≡ length (numbers (drop 2 l))
-  ring_count = sym (length-counted n (numbers (drop 2 l))) ∙ ap length ring_line.1.is
-
-  pub ring_few : n ≤ 128
-  ring_few = omega (arith, length-counted n (numbers (drop 2 l)), ring_line.1.few)
-
-  pub ring_listed : (i : ℕ) → i < n → Listed l i
-  ring_listed i h = record { hex = ring_line.0; below = omega (arith, ring_count) }
-
-  ring_whole : counted n (numbers (drop 2 l)) ≡ numbers (drop 2 l)
-  ring_whole = ring_line.1.is
+    go : (b : Bool) → (all_hex_of l && fits (kind_named l) (length l)) ≡ b → polygon ring ≡ decode l → (all_hex_of l ≡ true) × (ring ≡ numbers (drop 2 l))
+    go true d e = (and_left (all_hex_of l) (fits (kind_named l) (length l)) d, filled_ring (kind_named l) ring (drop 2 l) (rw (d, decode) at e))
+    go false d e = let f : polygon ring ≡ broken = rw (d, decode) at e in let z : ◌≡◌ {A = ℕ} 0 1 = cc in absurd (omega arith)
 
 module _ (l : List ℕ) (n : ℕ) (e : meaning (Polygon n) l ≡ decode l) where
-  polygon-has : some (counted n (numbers (drop 2 l))) ≡ ring_of (decode l)
-  unfolding meaning ring_of
-  polygon-has = ap ring_of e
+  ring_is : (all_hex_of l ≡ true) × (counted n (numbers (drop 2 l)) ≡ numbers (drop 2 l))
+  unfolding meaning
+  ring_is = decode_ring (counted n (numbers (drop 2 l))) l e
 
   pub polygon-count : n ≡ length (numbers (drop 2 l))
-  polygon-count = ring_count l n polygon-has
+  polygon-count = sym (length-counted n (numbers (drop 2 l))) ∙ ap length ring_is.1
 
   pub polygon_ring : decode l ≡ polygon (numbers (drop 2 l))
   unfolding meaning
-  polygon_ring = sym e ∙ ap polygon (ring_whole l n polygon-has)
+  polygon_ring = sym e ∙ ap polygon ring_is.1
 
   pub polygon_few : n ≤ 128
-  polygon_few = ring_few l n polygon-has
+  polygon_few = let h : length (numbers (drop 2 l)) ≤ 128 = rw polygon_ring at (decode_well l) in omega (arith, polygon-count)
 
   pub polygon-listed : (i : ℕ) → i < n → Listed l i
-  polygon-listed = ring_listed l n polygon-has
-
-module _ (l : List ℕ) (n : ℕ) (e : meaning (Inner n) l ≡ decode l) where
-  inner-has : some (counted n (numbers (drop 2 l))) ≡ ring_of (decode l)
-  unfolding meaning ring_of
-  inner-has = ap ring_of e
-
-  pub inner-count : n ≡ length (numbers (drop 2 l))
-  inner-count = ring_count l n inner-has
-
-  pub inner_ring : decode l ≡ inner (numbers (drop 2 l))
-  unfolding meaning
-  inner_ring = sym e ∙ ap inner (ring_whole l n inner-has)
-
-  pub inner_few : n ≤ 128
-  inner_few = ring_few l n inner-has
-
-  pub inner-listed : (i : ℕ) → i < n → Listed l i
-  inner-listed = ring_listed l n inner-has
+  polygon-listed i h = record { hex = ring_is.0; below = omega (arith, polygon-count) }
 
 -- ---- where the i-th point number stands
 

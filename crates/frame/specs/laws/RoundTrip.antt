@@ -1,11 +1,11 @@
 -- Reading back what was written: frames.
 use Rattle.std.specs.Prelude.{ℕ, suc, ◌+◌, ◌*◌, ◌-◌, ◌%◌, ◌≤◌, ◌<◌, ◌≡◌, Bool, true, false, ◌&&◌, List, [], ◌∷◌, ◌++◌, length, drop, ℤ}
-use Rattle.std.proofs.Common.{arith, ap₂, ◌∙◌, le-leb, leb-true, length-append, length-drop}
-use Rattle.std.proofs.Math.Path.{refl, ap}
+use Rattle.std.proofs.Common.{arith, ap, ap₂, ◌∙◌, le-leb, leb-true, length-append, length-drop}
+use Rattle.std.proofs.Math.Path.{refl}
 use Rattle.whole.specs.laws.Bools.{and_left, and_right}
 use Rattle.whole.specs.All.{All, none, more}
 use Rattle.hex.specs.Hex.{all_hex_of, number, signed32, digits, bits32, hex_computes}
-use Rattle.frame.specs.Frame.{Frame, begin, point, polygon, end_of_load, move, turn, question, inner, across, broken, Kind, kind_of, kind_named, fits_ring_of, fits, unsigned, coordinate, numbers, filled, decode}
+use Rattle.frame.specs.Frame.{Frame, begin, point, polygon, end_of_load, move, turn, question, across, broken, Kind, kind_of, kind_named, fits, unsigned, coordinate, numbers, filled, decode}
 use Rattle.frame.specs.Encode.{four_each, eight, encode}
 use Rattle.hex.specs.laws.Back.{all_hex_append, all_hex-digits, length_digits, number_digits, Fits32, bits32_small, signed32-bits32}
 
@@ -44,7 +44,6 @@ all_hex-encode (move number n x y z) =
     (all_hex_field 8 number (digits 4 n ++ (eight x ++ (eight y ++ eight z))) (all_hex_field 4 n (eight x ++ (eight y ++ eight z)) (all_hex-place x y z)))
 all_hex-encode (turn number n) = all_hex_field 2 6 (digits 8 number ++ digits 4 n) (all_hex_field 8 number (digits 4 n) (all_hex-digits 4 n))
 all_hex-encode (question n) = all_hex_field 2 7 (digits 4 n) (all_hex-digits 4 n)
-all_hex-encode (inner ring) = all_hex_field 2 8 (four_each ring) (all_hex-four_each ring)
 all_hex-encode (across a b) = all_hex_field 2 12 (digits 4 a ++ digits 4 b) (all_hex_field 4 a (digits 4 b) (all_hex-digits 4 b))
 all_hex-encode broken = refl
 
@@ -97,22 +96,13 @@ unfolding four_each numbers digits
 numbers-four_each [] none = refl
 numbers-four_each (n ∷ l) (more h b) = ap₂ (λ (m : ℕ) (k : List ℕ). m ∷ k) (number_digits 4 n h) (numbers-four_each l b)
 
-module _ (ring : List ℕ) (h : length ring ≤ 128) where
-  -- the length of a ring's line
-  ring_fits : fits_ring_of (suc (suc (length (four_each ring)))) ≡ true
-  ring_fits =
-      let n : length (four_each ring) ≡ 4 * length ring = length-four_each ring in
-      let a : suc (suc (length (four_each ring))) ≤ 514 = omega arith in
-      let d : suc (suc (length (four_each ring))) % 4 ≡ 2 = omega arith in
-      rw (le-leb (suc (suc (length (four_each ring)))) 514 a, d)
-
-  pub decode-polygon : All (λ (n : ℕ). n < 65536) ring → decode (encode (polygon ring)) ≡ polygon ring
-  unfolding encode hex_computes kind_named kind_of fits filled
-  decode-polygon b = decode_encoded (polygon ring) ring_fits ∙ ap polygon (numbers-four_each ring b)
-
-  pub decode-inner : All (λ (n : ℕ). n < 65536) ring → decode (encode (inner ring)) ≡ inner ring
-  unfolding encode hex_computes kind_named kind_of fits filled
-  decode-inner b = decode_encoded (inner ring) ring_fits ∙ ap inner (numbers-four_each ring b)
+pub decode-polygon : (ring : List ℕ) → length ring ≤ 128 → All (λ (n : ℕ). n < 65536) ring → decode (encode (polygon ring)) ≡ polygon ring
+unfolding encode hex_computes kind_named kind_of fits filled
+decode-polygon ring h b =
+    let n : length (four_each ring) ≡ 4 * length ring = length-four_each ring in
+    let a : suc (suc (length (four_each ring))) ≤ 514 = omega arith in
+    let d : suc (suc (length (four_each ring))) % 4 ≡ 2 = omega arith in
+    decode_encoded (polygon ring) (rw (le-leb _ 514 a, d)) ∙ ap polygon (numbers-four_each ring b)
 
 -- the fields that the frame table's digits can hold
 abbrev pub Encodable : Frame → Type 0
@@ -123,7 +113,6 @@ Encodable end_of_load = Unit {0}
 Encodable (move number n x y z) = (number < 4294967296) × ((n < 65536) × (Fits32 x × (Fits32 y × Fits32 z)))
 Encodable (turn number n) = (number < 4294967296) × (n < 65536)
 Encodable (question n) = n < 65536
-Encodable (inner ring) = (length ring ≤ 128) × All (λ (n : ℕ). n < 65536) ring
 Encodable (across a b) = (a < 65536) × (b < 65536)
 Encodable broken = ⊥
 
@@ -136,13 +125,12 @@ decode-encode end_of_load h = decode_end
 decode-encode (move number n x y z) h = decode_move x y z h.1.1.0 h.1.1.1.0 h.1.1.1.1 number n h.0 h.1.0
 decode-encode (turn number n) h = decode-turn number n h.0 h.1
 decode-encode (question n) h = decode_question n h
-decode-encode (inner ring) h = decode-inner ring h.0 h.1
 decode-encode (across a b) h = decode-across a b h.0 h.1
 decode-encode broken h = absurd h
 
 -- ---- what a line can say
 
--- a ring has at most 128 entries
+-- a polygon has at most 128 entries
 abbrev pub WellFormed : Frame → Type 0
 WellFormed (begin t) = Unit {0}
 WellFormed (point x y z) = Unit {0}
@@ -151,7 +139,6 @@ WellFormed end_of_load = Unit {0}
 WellFormed (move number n x y z) = Unit {0}
 WellFormed (turn number n) = Unit {0}
 WellFormed (question n) = Unit {0}
-WellFormed (inner ring) = length ring ≤ 128
 WellFormed (across a b) = Unit {0}
 WellFormed broken = Unit {0}
 
@@ -163,24 +150,19 @@ numbers_few (a ∷ b ∷ []) = omega arith
 numbers_few (a ∷ b ∷ c ∷ []) = omega arith
 numbers_few (a ∷ b ∷ c ∷ d ∷ l) = let h : 4 * length (numbers l) ≤ length l = numbers_few l in omega arith
 
--- a line whose length is that of one with a ring
-pub fits_few : (l : List ℕ) → fits_ring_of (length l) ≡ true → length (numbers (drop 2 l)) ≤ 128
-fits_few l e =
-    let a : length l ≤ 514 = leb-true (length l) 514 (and_left _ _ e) in
-    let b : 4 * length (numbers (drop 2 l)) ≤ length (drop 2 l) = numbers_few (drop 2 l) in
-    let c : length (drop 2 l) ≡ length l - 2 = length-drop 2 l in
-    omega arith
-
 filled_well : (k : Kind) (l : List ℕ) → fits k (length l) ≡ true → WellFormed (filled k (drop 2 l))
 unfolding fits filled unsigned coordinate
 filled_well Kind.begin l e = tt
 filled_well Kind.point l e = tt
-filled_well Kind.polygon l e = fits_few l e
+filled_well Kind.polygon l e =
+    let a : length l ≤ 514 = leb-true (length l) 514 (and_left _ _ e) in
+    let b : 4 * length (numbers (drop 2 l)) ≤ length (drop 2 l) = numbers_few (drop 2 l) in
+    let c : length (drop 2 l) ≡ length l - 2 = length-drop 2 l in
+    omega arith
 filled_well Kind.end_of_load l e = tt
 filled_well Kind.move l e = tt
 filled_well Kind.turn l e = tt
 filled_well Kind.question l e = tt
-filled_well Kind.inner l e = fits_few l e
 filled_well Kind.across l e = tt
 filled_well Kind.unknown l e = tt
 

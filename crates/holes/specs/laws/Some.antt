@@ -9,7 +9,7 @@ use Rattle.whole.specs.All.{All, none, more}
 use Rattle.whole.specs.laws.Reverse.{any_or}
 
 module _ {A : Type 0} where
-  pub any_either : (t s : A → Bool) (l : List A) → any (λ x. t x || s x) l ≡ (any t l || any s l)
+  any_either : (t s : A → Bool) (l : List A) → any (λ x. t x || s x) l ≡ (any t l || any s l)
   unfolding any
   any_either t s [] = refl
   any_either t s (x ∷ l) =
@@ -22,7 +22,7 @@ module _ {A : Type 0} where
       regroup false true false d = refl
       regroup false false c d = refl
 
-  pub any_never : (l : List A) → any (λ (_ : A). false) l ≡ false
+  any_never : (l : List A) → any (λ (_ : A). false) l ≡ false
   unfolding any
   any_never [] = refl
   any_never (x ∷ l) = any_never l

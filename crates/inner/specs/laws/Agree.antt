@@ -15,11 +15,5 @@ module _ (flat : List ℤ) (entries starts : List ℕ) (from to tolerance : ℕ)
       → r₁ ≡ r₂
   look_at_agrees r₁ r₂ h k = λ i. record { kept = agree h.0 k.0 i; part = agree h.1 k.1 i }
 
-  pub look_at_several_agrees : (r₁ r₂ : Look)
-      → (r₁.kept ≡ kept_finding (finding tolerance (points_of flat) (polygon_of entries starts from to))) × (r₁.part ≡ part (points_of flat) (polygon_of entries starts from to))
-      → (r₂.kept ≡ kept_finding (finding tolerance (points_of flat) (polygon_of entries starts from to))) × (r₂.part ≡ part (points_of flat) (polygon_of entries starts from to))
-      → r₁ ≡ r₂
-  look_at_several_agrees = look_at_agrees
-
   pub position_of_agrees : (r₁ r₂ : ℕ) → r₁ ≡ finding_position_of (finding tolerance (points_of flat) (polygon_of entries starts from to)) → r₂ ≡ finding_position_of (finding tolerance (points_of flat) (polygon_of entries starts from to)) → r₁ ≡ r₂
   position_of_agrees r₁ r₂ = agree

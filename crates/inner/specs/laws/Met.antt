@@ -24,7 +24,7 @@ use Rattle.polygon.specs.declared.Finding.{Finding}
 use Rattle.polygon.specs.declared.Finding.TheVariants.{Sound, Short, Unclosed, Repeated, NoNormal, Crossed, Uneven, Shared, Misplaced}
 use Rattle.polygon.specs.Ring.{is_short, edges_in, ring_rows, ring_finding, finding_number_of, finding_position_of}
 use Rattle.polygon.specs.held.Position.{has_position_of}
-use Rattle.polygon.specs.laws.Checks.{ring_checks, ring_exactly, ring_closed_lem}
+use Rattle.polygon.specs.laws.Checks.{ring_checks, ring_exactly, ring_closed}
 use Rattle.polygon.specs.laws.Position.{edges-length}
 use Rattle.polygon.specs.laws.Rows.{sound_or}
 use Rattle.inner.specs.Finding.{later, rings_rows}
@@ -179,7 +179,7 @@ module _ (points : List Point) (entries starts : List ℕ) (from to : ℕ) (h : 
       ring-some = go (sound_or (ring_finding points ring))
         where
           go : (ring_finding points ring ≡ Sound) ⊎ (ring_finding points ring ≡ Sound → ⊥) → 1 ≤ length ring
-          go (inl e) = omega (arith, (ring_closed_lem points ring e).0)
+          go (inl e) = omega (arith, (ring_closed points ring e).0)
           go (inr f) = omega (arith, (met points ring which (failing f).1).0)
 
       pub found_here : {i : ℕ} → i ≡ met_at k points ring → i + 1 < length ring → before + i ≡ finding_position_of whole

@@ -33,7 +33,7 @@ use Rattle.polygon.specs.declared.Finding.{Finding}
 use Rattle.polygon.specs.declared.Finding.TheVariants.{Sound, Short, Unclosed, Repeated, NoNormal, Crossed, Uneven, Shared, Misplaced}
 use Rattle.polygon.specs.Ring.{ring_finding, finding_number_of, finding_position_of}
 use Rattle.polygon.specs.held.Findings.{kept_finding}
-use Rattle.polygon.specs.laws.Checks.{ring_closed_lem}
+use Rattle.polygon.specs.laws.Checks.{ring_closed}
 use Rattle.polygon.specs.laws.Rows.{kept_sound, sound_or, ring_position_few}
 use Rattle.inner.specs.Finding.{later, rings_rows, part}
 use Rattle.inner.specs.held.Told.{Told}
@@ -337,7 +337,7 @@ module _ {entries starts : List ℕ} {from to : ℕ} (h : Rings entries starts f
         span_each (λ l. ring_finding points l ≡ Sound) (to - from) from (subst (All (λ (l : List ℕ). ring_finding points l ≡ Sound)) (sym rings_are) (all_pass points 0 (rings_of (polygon_of entries starts from to)) e)) r a (omega arith)
 
     pub all-filled : Filled entries starts from to
-    all-filled = record { each = λ r a b. omega (arith, (ring_closed_lem points (ring_at entries starts r) (passes_at r a b)).0) }
+    all-filled = record { each = λ r a b. omega (arith, (ring_closed points (ring_at entries starts r) (passes_at r a b)).0) }
 
     pub all_closed : Closings entries starts from to
-    all_closed = record { each = λ r a b. (ring_closed_lem points (ring_at entries starts r) (passes_at r a b)).1 }
+    all_closed = record { each = λ r a b. (ring_closed points (ring_at entries starts r) (passes_at r a b)).1 }

@@ -28,7 +28,7 @@ use Rattle.holes.specs.laws.Some.{any-map}
 use Rattle.polygon.specs.declared.Finding.TheVariants.{Sound, Uneven, Shared, Misplaced}
 use Rattle.polygon.specs.Ring.{ring_finding, finding_number_of}
 use Rattle.polygon.specs.held.Position.{has_position_of}
-use Rattle.polygon.specs.laws.Checks.{ring_closed_lem}
+use Rattle.polygon.specs.laws.Checks.{ring_closed}
 use Rattle.polygon.specs.laws.Position.{number_same}
 use Rattle.polygon.specs.laws.Rows.{sound_or}
 use Rattle.polygon.specs.laws.TurnFinding.{opposite, map-reverse, here, turned-normal, relative-first, largest_axis-opposite, ring_number-turned, comes_back, exceeds-opposite}
@@ -104,7 +104,7 @@ first-place points (a ∷ l) m h = refl
 
 -- ---- a polygon whose rings all pass 01 to 05
 passing : (points : List Point) (rs : List (List ℕ)) → All (λ (r : List ℕ). ring_finding points r ≡ Sound) rs → All (λ (r : List ℕ). is_unclosed r ≡ false) rs
-passing points rs a = all_imp (λ r e. (ring_closed_lem points r e).1) a
+passing points rs a = all_imp (λ r e. (ring_closed points r e).1) a
 
 module _ (points : List Point) where
   component-opposite : (axis : Axis) (n : Point) → component axis (opposite n) ≡ neg_ℤ (component axis n)
@@ -141,7 +141,7 @@ module _ (tolerance : ℕ) (points : List Point) (p : Polygon) (pass : All (λ (
   n = normal (places points p.outer)
 
   n-over : normal (places points (reverse p.outer)) ≡ opposite n
-  n-over = normal-over points p.outer (ring_closed_lem points p.outer outer_pass).1
+  n-over = normal-over points p.outer (ring_closed points p.outer outer_pass).1
 
   axis-over : largest_axis_of (normal (places points (reverse p.outer))) ≡ largest_axis_of n
   axis-over = ap largest_axis_of n-over ∙ largest_axis-opposite n
@@ -150,7 +150,7 @@ module _ (tolerance : ℕ) (points : List Point) (p : Polygon) (pass : All (λ (
   first-over : first_of origin (places points (entries_from (turned_over p))) ≡ first_of origin (places points (entries_from p))
   unfolding entries_from turned_over rings_of all first_of
   first-over =
-      let h = ring_closed_lem points p.outer outer_pass in
+      let h = ring_closed points p.outer outer_pass in
       first-place points (reverse p.outer) (all (λ r. r) (map reverse p.inner)) (omega (arith, h.0, length-reverse p.outer))
       ∙ ap (λ (e : ℕ). get_or points e origin) (ends p.outer h.1)
       ∙ sym (first-place points p.outer (all (λ r. r) p.inner) (omega (arith, h.0)))

@@ -3,7 +3,6 @@ use Rattle.std.specs.Prelude.{ℕ, ◌≤◌, ◌<◌, ◌≡◌, Bool, true, fa
 use native.Mathlib.Omega.{arith}
 use Rattle.std.proofs.Math.Path.{refl, sym, ap}
 use Rattle.std.proofs.Common.{◌∙◌}
-use Rattle.std.proofs.Math.Bool.{not}
 use mathlib.Core.List.{List, [], ◌∷◌}
 use borrow.Author.Tests.{le-leb, lt-leb}
 use Rattle.std.proofs.Math.ListN.{length}
@@ -27,7 +26,7 @@ use Rattle.load.specs.held.Load.{PointRow}
 module _ (points : List ℤ) (d : Desk) (x y z : ℤ) where
   pub point_misplaced : loads d.mode ≡ false → PointRow points d x y z Misplaced
   unfolding is_malformed is_misplaced_of
-  point_misplaced e = not_loading refl (λ st q. ap not q) e
+  point_misplaced e = not_loading refl (λ st. refl) e
 
   module _ (l : loads d.mode ≡ true) where
     point-rows : (a : Arrays) → a.points ≡ points → Valid a d

@@ -44,10 +44,10 @@ component_small Y h = h.y
 component_small Z h = h.z
 
 -- ---- a ring that ends where it begins
-ring_closed_lem : (at : ℕ → Spot) (ring : List ℕ) → 1 ≤ length ring → is_unclosed ring ≡ false → Closed (map at ring)
+ring_closed : (at : ℕ → Spot) (ring : List ℕ) → 1 ≤ length ring → is_unclosed ring ≡ false → Closed (map at ring)
 unfolding is_unclosed
-ring_closed_lem at [] h e = absurd (omega arith)
-ring_closed_lem at (a ∷ l) h e =
+ring_closed at [] h e = absurd (omega arith)
+ring_closed at (a ∷ l) h e =
     closed
     (last-at (at 0) (at a) (map at l)
     ∙ ap (λ (n : ℕ). get_or (map at (a ∷ l)) n (at 0)) (length-map l at)
@@ -83,7 +83,7 @@ module _ {flat : List ℤ} (coords : Coords flat) (axis : Axis) {j k : ℕ} (on_
   others = span spots (from + 1) (to - (from + 1))
 
   one-closed : (r : ℕ) → from ≤ r → r < to → Closed (spots r)
-  one-closed r a b = ring_closed_lem spot_at (ring_at entries starts r) (filled.each r a b) (closings.each r a b)
+  one-closed r a b = ring_closed spot_at (ring_at entries starts r) (filled.each r a b) (closings.each r a b)
 
   pub misplaced_tells : is_misplaced_of (see polygon.outer) (map see polygon.inner) c (map (component_of axis (points_of flat)) polygon.inner)
       ≡ (any (λ r. not (stands (spot_at 0) r (spots from))) others || any_two (nested (spot_at 0)) others || any (λ d. not (is_opposite c d)) components)

@@ -88,7 +88,7 @@ moved_stamps entries starts firsts number n m stamps w =
 -- ---- all of it
 module _ {points : List ℤ} {entries starts firsts : List ℕ} {s : Scalars} (ld : Loaded points entries starts firsts s) (n : ℕ) (p : Point) where
   pub moved-loaded : NearPlace p → Loaded (placed points n p) entries starts firsts s
-  moved-loaded near = record { coords = placed_coords points n p ld.coords near; first = ld.first; layout = ld.layout; entered = ld.entered; tolerant = ld.tolerant; short = ld.short }
+  moved-loaded near = record { coords = placed_coords points n p ld.coords near; first = ld.first; layout = ld.layout; ones = ld.ones; entered = ld.entered; tolerant = ld.tolerant; short = ld.short }
 
 module _ (a : Arrays) (s : Scalars) (hd : Held a s) (number n : ℕ) (p : Point) (h : n < s.points) (near : NearPlace p) where
   pub did_moved : {points' : List ℤ} {stamps' findings' : List ℕ} {parts' : List ℤ}
@@ -108,7 +108,7 @@ module _ (a : Arrays) (s : Scalars) (hd : Held a s) (number n : ℕ) (p : Point)
       rw (lo.stamped, lo.found, lo.summed, e)
       (record {
         held = record {
-          loaded = record { coords = lm.coords; first = lm.first; layout = lm.layout; entered = lm.entered; tolerant = lm.tolerant; short = lm.short };
+          loaded = record { coords = lm.coords; first = lm.first; layout = lm.layout; ones = lm.ones; entered = lm.entered; tolerant = lm.tolerant; short = lm.short };
           stamped = length-upto (restamp a.entries a.starts a.firsts number n) 0 a.stamps s.polygons ∙ hd.stamped;
           kept = record {
             found = record { size = fo.size; each = fo.each };

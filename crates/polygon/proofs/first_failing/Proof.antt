@@ -11,7 +11,7 @@ use Rattle.space.specs.Space.{Point, places}
 use Rattle.ring.specs.Entries.{is_unclosed}
 use Rattle.normal.specs.Normal.{normal}
 use Rattle.even.specs.Even.{uneven_at}
-use Rattle.polygon.specs.laws.Checks.{ring_closed_lem}
+use Rattle.polygon.specs.laws.Checks.{ring_closed}
 use Rattle.polygon.specs.laws.Rows.{kept_sound}
 use Rattle.polygon.specs.laws.Triangle.{triangle_even}
 use Rattle.polygon.proofs.Order.{found_early, found_uneven, found-sound, even_is}
@@ -29,7 +29,7 @@ spots c = places (table c) c.args.ring.now
 closed : (c : tie.Else1) → let ring = c.before.before.before.args.ring.now in (4 ≤ length ring) × (is_unclosed ring ≡ false)
 closed c =
     let s = c.before.before.before in
-    ring_closed_lem (table s) s.args.ring.now (kept_sound _ (sym c.before.first-of-five.ensures ∙ c.if1.false))
+    ring_closed (table s) s.args.ring.now (kept_sound _ (sym c.before.first-of-five.ensures ∙ c.if1.false))
 
 uneven_is : (c : tie.After-first-uneven-closed) → let s = c.before.before.before.before.before in c.first-uneven-closed.result ≡ uneven_at s.args.tolerance (normal (spots s)) (spots s)
 uneven_is c = let s = c.before.before.before.before.before in c.first-uneven-closed.ensures ∙ ap (λ (n : Point). uneven_at s.args.tolerance n (spots s)) s.requires.1.1.1

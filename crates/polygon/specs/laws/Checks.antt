@@ -52,9 +52,9 @@ unfolding ring_finding ring_rows ring_checks rows finding_number_of any any_two
 ring_exactly points ring = none-exactly Sound (ring_checks points ring) (distinct_of finding_number_of Sound (ring_checks points ring) refl refl)
 
 -- such a ring is not short, and closed
-pub ring_closed_lem : (points : List Point) (ring : List ℕ) → ring_finding points ring ≡ Sound → (4 ≤ length ring) × (is_unclosed ring ≡ false)
+pub ring_closed : (points : List Point) (ring : List ℕ) → ring_finding points ring ≡ Sound → (4 ≤ length ring) × (is_unclosed ring ≡ false)
 unfolding ring_checks is_short
-ring_closed_lem points ring e = go ((ring_exactly points ring).1 e)
+ring_closed points ring e = go ((ring_exactly points ring).1 e)
   where
     go : NoneGiven (ring_checks points ring) → (4 ≤ length ring) × (is_unclosed ring ≡ false)
     go (more a (more b n)) = (ltb-false (length ring) 4 a, b)

@@ -65,13 +65,13 @@ unfolding lists_compute space_computes plane_computes ring_computes
 uneven-bow_tie = refl
 
 -- "ties: x, then y", by size
-pub tie_to-x : largest_axis_of (place (pos 5) (negsuc 4) (pos 5)) ≡ X
+pub tie_to_x : largest_axis_of (place (pos 5) (negsuc 4) (pos 5)) ≡ X
 unfolding plane_computes
-tie_to-x = refl
+tie_to_x = refl
 
-pub tie_to-y : largest_axis_of (place (pos 1) (pos 5) (negsuc 4)) ≡ Y
+pub tie_to_y : largest_axis_of (place (pos 1) (pos 5) (negsuc 4)) ≡ Y
 unfolding plane_computes
-tie_to-y = refl
+tie_to_y = refl
 
 -- "with the last entry left aside, some number stands twice (the first entry's number too)"
 pub first_again : finding 0 (lifted 0) (0 ∷ 1 ∷ 0 ∷ 0 ∷ []) ≡ Repeated 2

@@ -18,7 +18,7 @@ use Rattle.plane.specs.laws.Found.{found_meet}
 use Rattle.plane.specs.laws.Share.{share_exactly}
 use Rattle.rays.specs.Inside.{crosses, is_odd, inside}
 use Rattle.rays.specs.laws.Flags.{same_test, xor, xor-none, xor_self, xor_same, xor_chain, xor-four}
-use Rattle.rays.specs.laws.Signs.{Sides, sides-of, Cut, across-to, across-back, rising_to, rising_back, leaving_to, leaving_back, within_to, within_back, le_or_lt}
+use Rattle.rays.specs.laws.Signs.{Sides, sides-of, Cut, across_to, across-back, rising_to, rising_back, leaving_to, leaving_back, within_to, within_back, le_or_lt}
 
 -- ---- two segments that do not meet do not cut one another
 pub meet-swap : {e f : Segment} → Meet e f → Meet f e
@@ -96,7 +96,7 @@ module _ (a b p q : Spot) (apart : Meet (a, b) (p, q) → ⊥) where
   low-high : a.v ≤ℤ p.v → a.v ≤ℤ q.v → p.v <ℤ b.v → q.v <ℤ b.v → lt_z (pos 0) (side a b p) ≡ lt_z (pos 0) (side a b q)
   low-high h g i j =
       let r : a.v <ℤ b.v = lin 3 (λ a p b. a ≼ p ⇒ p ≺ b ⇒ a ≺ b) (omega arith) a.v p.v b.v h i in
-      same_lt (pos 0) (side a b p) (pos 0) (side a b q) (across-to s uncut r h g (lt_le i) (lt_le j)) (across-back s uncut r h g (lt_le i) (lt_le j))
+      same_lt (pos 0) (side a b p) (pos 0) (side a b q) (across_to s uncut r h g (lt_le i) (lt_le j)) (across-back s uncut r h g (lt_le i) (lt_le j))
 
   low_mid : a.v ≤ℤ p.v → p.v <ℤ b.v → b.v ≤ℤ q.v → lt_z (pos 0) (side a b p) ≡ lt_z (side p q b) (pos 0)
   low_mid h g i = same_lt (pos 0) (side a b p) (side p q b) (pos 0) (rising_to s uncut h g i) (rising_back s uncut h g i)

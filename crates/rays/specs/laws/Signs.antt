@@ -172,8 +172,8 @@ module _ {a b p q α β γ δ : ℤ} (s : Sides a b p q α β γ δ) (apart : Cu
   otherwise (inl h) f = absurd (f h)
   otherwise (inr h) f = h
 
-  pub across-to : a <ℤ b → a ≤ℤ p → a ≤ℤ q → p ≤ℤ b → q ≤ℤ b → pos 0 <ℤ α → pos 0 <ℤ β
-  across-to h al aq pb qb x = otherwise (le_or_lt β (pos 0)) (λ y. let r = across s h al aq pb qb (lt_le x) y in apart (record { mixed_e = inr (lt_le x, y); mixed_f = inl r; some = inl (λ e. above-not x e.0) }))
+  pub across_to : a <ℤ b → a ≤ℤ p → a ≤ℤ q → p ≤ℤ b → q ≤ℤ b → pos 0 <ℤ α → pos 0 <ℤ β
+  across_to h al aq pb qb x = otherwise (le_or_lt β (pos 0)) (λ y. let r = across s h al aq pb qb (lt_le x) y in apart (record { mixed_e = inr (lt_le x, y); mixed_f = inl r; some = inl (λ e. above-not x e.0) }))
 
   pub across-back : a <ℤ b → a ≤ℤ p → a ≤ℤ q → p ≤ℤ b → q ≤ℤ b → pos 0 <ℤ β → pos 0 <ℤ α
   across-back h al aq pb qb y = otherwise (le_or_lt α (pos 0)) (λ x. let r = across (sides_neg s) h al aq pb qb (neg_nonneg α x) (neg_le β (lt_le y)) in apart (record { mixed_e = inl (x, lt_le y); mixed_f = inr (minus γ r.0, plus δ r.1); some = inl (λ e. above-not y e.1) }))

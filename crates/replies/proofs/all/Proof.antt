@@ -1,6 +1,6 @@
 -- `replies::all` meets its contract.
-use Rattle.replies.specs.laws.Loop.{running_idle, running_turn, running_end, room_left, rings-left, valid_idle, Running}
-use Rattle.building.specs.held.Holds.{Arrays, arrays}
+use Rattle.replies.specs.laws.Loop.{running_idle, running_turn, running_end, room_left, valid_idle, Running}
+use Rattle.building.specs.held.Holds.{arrays}
 use Rattle.lines.specs.laws.LineLaws.{end_above, end_inside}
 use borrow.Author.Rules.{rules}
 use lib.ListN.{length}
@@ -50,7 +50,7 @@ idle-requires c κs = search rules
 loop-holds : tie.Need-loop-init invariant-loop decreases-loop
 loop-holds c =
     running_idle c.before.before.before.before.before.before.before.before.before.before.before.before.args.stream.now c.before.before.before.before.before.before.before.before.before.before.before.before.args.room.now _ c.idle.result c.idle.ensures (valid_idle _ c.before.before.before.before.before.before.before.before.before.fresh-points.ensures c.before.before.before.before.before.before.before.before.fresh-entries.ensures c.before.before.before.before.before.before.before.fresh-starts.ensures.0 c.before.before.before.before.before.before.before.fresh-starts.ensures.1 c.before.before.before.before.before.before.fresh-firsts.ensures.0 c.before.before.before.before.before.before.fresh-firsts.ensures.1
-    (record { stamps = c.before.before.before.before.before.fresh-stamps.ensures; findings = c.before.before.before.before.fresh-findings.ensures; parts = c.before.before.before.fresh-parts.ensures; table = c.before.before.fresh-table.ensures.0; turned = c.before.fresh-turned.ensures }) c.before.before.fresh-table.ensures.1) c.before.before.before.before.before.before.before.before.before.before.before.before.requires.1.0 c.before.before.before.before.before.before.before.before.before.before.before.before.requires.1.1
+    (record { stamps = c.before.before.before.before.before.fresh-stamps.ensures; findings = c.before.before.before.before.fresh-findings.ensures; parts = c.before.before.before.fresh-parts.ensures; table = c.before.before.fresh-table.ensures.0; turned = c.before.fresh-turned.ensures }) c.before.before.fresh-table.ensures.1) c.before.before.before.before.before.before.before.before.before.before.before.before.requires.1
 
 line-end-requires : tie.Need-line-end-requires invariant-loop decreases-loop
 line-end-requires c κs = search rules
@@ -81,11 +81,8 @@ part-one-end c =
 
 one-requires : tie.Need-one-requires invariant-loop decreases-loop
 one-requires c κs =
-    let g = c.before.before.before.before.before.before.before.before.before.before.before.before.before.before.before.before.before.before.before.before.before.before.before.before.before.before.args in
     let l = c.before.before.before.before.before.before.before.before.before.before.before.before.before.loop in
-    let w : Arrays = arrays l.points l.entries l.starts l.firsts l.stamps l.findings l.parts l.table l.turned in
-    let more = c.before.before.before.before.before.before.before.before.before.before.before.before.loop-test.true in
-    ((room_left g.stream.now g.room.now l.room w l.d l.from l.invariant more, rings-left g.stream.now g.room.now l.room w l.d l.from l.invariant more), l.invariant.valid)
+    (room_left c.before.before.before.before.before.before.before.before.before.before.before.before.before.before.before.before.before.before.before.before.before.before.before.before.before.before.args.stream.now c.before.before.before.before.before.before.before.before.before.before.before.before.before.before.before.before.before.before.before.before.before.before.before.before.before.before.args.room.now l.room (arrays l.points l.entries l.starts l.firsts l.stamps l.findings l.parts l.table l.turned) l.d l.from l.invariant c.before.before.before.before.before.before.before.before.before.before.before.before.loop-test.true, l.invariant.valid)
 
 add-from : tie.Need-overflow-add-from invariant-loop decreases-loop
 add-from c =

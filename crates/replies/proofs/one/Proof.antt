@@ -7,10 +7,10 @@ use Rattle.desk.specs.held.Holds.{service}
 use Rattle.service.specs.laws.Handlers.{of_broken}
 use Rattle.service.specs.Service.{is_accepted_of}
 use Rattle.service.specs.declared.Refusal.TheVariants.{Malformed}
-use Rattle.frame.specs.Frame.{begin, point, polygon, end_of_load, move, inner, broken, decode, numbers}
-use Rattle.frame.specs.laws.Decoded.{polygon-count, polygon_few, polygon-listed, polygon_ring, inner-count, inner_few, inner-listed, inner_ring}
+use Rattle.frame.specs.Frame.{begin, point, polygon, end_of_load, move, broken, decode, numbers}
+use Rattle.frame.specs.laws.Decoded.{polygon-count, polygon_few, polygon-listed, polygon_ring}
 use Rattle.frame.specs.held.Meaning.{meaning}
-use Rattle.frame.specs.declared.Fields.TheVariants.{Polygon, Inner}
+use Rattle.frame.specs.declared.Fields.TheVariants.{Polygon}
 use Rattle.frame.specs.declared.Fields.{Fields}
 use lib.ListN.{drop}
 use mir.Facts.{to_z-of_z}
@@ -41,11 +41,10 @@ enum-known-f-3 c = search rules
 
 add-polygon-requires : tie.Need-add-polygon-requires
 add-polygon-requires c κs =
-    let s = c.before.before.before.before.before.before.before.before.before.before in
-    let g = s.args in
-    let w : Arrays = arrays g.points.now g.entries.now g.starts.now g.firsts.now g.stamps.now g.findings.now g.parts.now g.table.now g.turned.now in
+    let g = c.before.before.before.before.before.before.before.before.before.before.args in
+    let v = c.before.before.before.before.before.before.before.before.before.before.requires.1 in
     let e : meaning (Polygon c.before.before.before.before.before.f3.given.0.0) g.line.now ≡ decode g.line.now = sym (ap (λ (q : Fields). meaning q g.line.now) c.before.before.before.before.before.f3.given.1) ∙ c.before.before.before.before.before.before.before.decode.ensures in
-    (s.requires.0.0, (record { count = polygon-count g.line.now _ e; few = polygon_few g.line.now _ e; listed = polygon-listed g.line.now _ e }, (s.requires.1.loaded.entered.size, ends_of w g.d s.requires.1 s.requires.0.1)))
+    (c.before.before.before.before.before.before.before.before.before.before.requires.0, (record { count = polygon-count g.line.now _ e; few = polygon_few g.line.now _ e; listed = polygon-listed g.line.now _ e }, (v.loaded.entered.size, ends_of v.loaded)))
 
 enum_told : tie.Need-enum-told
 enum_told c = search rules
@@ -83,22 +82,11 @@ ask-requires c κs = search rules
 enum-known-f-7 : tie.Need-enum-known-f-7
 enum-known-f-7 c = search rules
 
-add-inner-requires : tie.Need-add-inner-requires
-add-inner-requires c κs =
-    let s = c.before.before.before.before.before.before.before.before.before.before in
-    let g = s.args in
-    let w : Arrays = arrays g.points.now g.entries.now g.starts.now g.firsts.now g.stamps.now g.findings.now g.parts.now g.table.now g.turned.now in
-    let e : meaning (Inner c.before.before.before.before.before.f7.given.0.0) g.line.now ≡ decode g.line.now = sym (ap (λ (q : Fields). meaning q g.line.now) c.before.before.before.before.before.f7.given.1) ∙ c.before.before.before.before.before.before.before.decode.ensures in
-    (s.requires.0.0, (record { count = inner-count g.line.now _ e; few = inner_few g.line.now _ e; listed = inner-listed g.line.now _ e }, (s.requires.1.loaded.entered.size, ends_of w g.d s.requires.1 s.requires.0.1)))
-
-enum-known-f-8 : tie.Need-enum-known-f-8
-enum-known-f-8 c = search rules
-
 ask-requires-2 : tie.Need-ask-requires-2
 ask-requires-2 c κs =
     let s = c.before.before.before.before.before.before.before.before in
     let g = s.args in
-    (s.requires.0.0, valid_sorted (arrays g.points.now g.entries.now g.starts.now g.firsts.now g.stamps.now g.findings.now g.parts.now g.table.now g.turned.now) g.d s.requires.1)
+    (s.requires.0, valid_sorted (arrays g.points.now g.entries.now g.starts.now g.firsts.now g.stamps.now g.findings.now g.parts.now g.table.now g.turned.now) g.d s.requires.1)
 
 enum-told-2 : tie.Need-enum-told-2
 enum-told-2 c = search rules
@@ -191,30 +179,19 @@ same-length-8 : tie.Need-same-length-8
 same-length-8 c = search rules
 
 returns-8 : tie.Need-returns-8
+unfolding meaning
 returns-8 c =
-    let g = c.before.before.before.before.before.before.before.before.before.before.before.before.before.args in
-    let v = c.before.before.before.before.before.before.before.before.before.before.before.before.before.requires.1 in
+    let g = c.before.before.before.before.before.before.before.before.before.before.before.args in
+    let v = c.before.before.before.before.before.before.before.before.before.before.before.requires.1 in
     let w : Arrays = arrays g.points.now g.entries.now g.starts.now g.firsts.now g.stamps.now g.findings.now g.parts.now g.table.now g.turned.now in
-    let e : meaning (Inner c.before.before.before.before.before.before.before.before.f7.given.0.0) g.line.now ≡ decode g.line.now = sym (ap (λ (q : Fields). meaning q g.line.now) c.before.before.before.before.before.before.before.before.f7.given.1) ∙ c.before.before.before.before.before.before.before.before.before.before.decode.ensures in
-    did_step (service w g.d) g.line.now (inner (numbers (drop 2 g.line.now))) g.room.now _ g.d.at _ _ (sym (inner_ring g.line.now _ e)) (c.before.before.add-inner.ensures w refl refl refl v)
+    did_step (service w g.d) g.line.now _ g.room.now _ g.d.at _ _ (sym (ap (λ (q : Fields). meaning q g.line.now) c.before.before.before.before.before.before.f7.given.1) ∙ c.before.before.before.before.before.before.before.before.decode.ensures) (c.before.before.ask2.ensures w refl v)
 
 same-length-9 : tie.Need-same-length-9
 same-length-9 c = search rules
 
 returns-9 : tie.Need-returns-9
-unfolding meaning
-returns-9 c =
-    let g = c.before.before.before.before.before.before.before.before.before.before.before.args in
-    let v = c.before.before.before.before.before.before.before.before.before.before.before.requires.1 in
-    let w : Arrays = arrays g.points.now g.entries.now g.starts.now g.firsts.now g.stamps.now g.findings.now g.parts.now g.table.now g.turned.now in
-    did_step (service w g.d) g.line.now _ g.room.now _ g.d.at _ _ (sym (ap (λ (q : Fields). meaning q g.line.now) c.before.before.before.before.before.before.f8.given.1) ∙ c.before.before.before.before.before.before.before.before.decode.ensures) (c.before.before.ask2.ensures w refl v)
-
-same-length-10 : tie.Need-same-length-10
-same-length-10 c = search rules
-
-returns-10 : tie.Need-returns-10
 unfolding meaning is_accepted_of
-returns-10 c =
+returns-9 c =
     let g = c.before.before.before.before.before.before.before.before.before.args in
     let v = c.before.before.before.before.before.before.before.before.before.requires.1 in
     let w : Arrays = arrays g.points.now g.entries.now g.starts.now g.firsts.now g.stamps.now g.findings.now g.parts.now g.table.now g.turned.now in
@@ -244,8 +221,6 @@ one_spec =
     cast-n-3
     ask-requires
     enum-known-f-7
-    add-inner-requires
-    enum-known-f-8
     ask-requires-2
     enum-told-2
     refuse-requires
@@ -266,6 +241,4 @@ one_spec =
     same-length-8
     returns-8
     same-length-9
-    returns-9
-    same-length-10
-    returns-10)
+    returns-9)

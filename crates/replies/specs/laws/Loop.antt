@@ -19,12 +19,9 @@ use Rattle.shell.specs.declared.Shape.TheVariants.{Whole}
 use Rattle.taken.specs.laws.Chains.{chained_fresh}
 use Rattle.building.specs.held.Holds.{Arrays, Sizes}
 use Rattle.building.specs.laws.Load.{loaded-begun}
-use Rattle.ring.specs.Polygon.{all_rings}
-use Rattle.building.specs.Tables.{begun}
-use Rattle.service.specs.Service.{State, tables_of, step}
+use Rattle.service.specs.Service.{State, step}
 use Rattle.service.specs.Stream.{run, answers}
 use Rattle.service.specs.laws.Short.{step-short}
-use Rattle.service.specs.laws.Rings.{rings-step}
 use Rattle.desk.specs.declared.Desk.{Desk}
 use Rattle.modes.specs.declared.Mode.TheVariants.{Nothing, Loading, Holding}
 use Rattle.modes.specs.held.Mode.{loads, holds}
@@ -39,27 +36,22 @@ did_step st l f room room' at a d e h = subst (λ (g : Frame). Did (does st g) r
 
 -- ---- the loop
 
--- how many rings are held
-abbrev rings_held : State → ℕ
-rings_held st = length (all_rings (tables_of st).polygons)
-
--- the loop over the lines: what is still to be written gives the whole, and each ring has had a line
+-- the loop over the lines: what is still to be written gives the whole
 pub record Running (stream room₀ room : List ℕ) (a : Arrays) (d : Desk) (from : ℕ) : Type 0 where
   pub valid : Valid a d
   pub inside : from ≤ length stream + 1
   pub same : length room ≡ length room₀
   pub space : d.at + 33 * length (lines (drop from stream)) ≤ length room₀
-  pub fewer : rings_held (service a d) + length (lines (drop from stream)) ≤ 1024
   pub rest : sets room d.at (run (service a d) (lines (drop from stream))) ≡ sets room₀ 0 (answers stream)
   pub count : d.at + length (run (service a d) (lines (drop from stream))) ≡ length (answers stream)
 
-running_start : (stream room : List ℕ) (a : Arrays) → Valid a idle_desk → length (lines stream) ≤ 1024 → 33 * length (lines stream) ≤ length room → Running stream room room a idle_desk 0
-unfolding service state_of answers tables_of begun all_rings
-running_start stream room a v n h = record { valid = v; inside = omega arith; same = refl; space = omega arith; fewer = omega arith; rest = refl; count = omega arith }
+running_start : (stream room : List ℕ) (a : Arrays) → Valid a idle_desk → 33 * length (lines stream) ≤ length room → Running stream room room a idle_desk 0
+unfolding service state_of answers
+running_start stream room a v h = record { valid = v; inside = omega arith; same = refl; space = omega arith; rest = refl; count = omega arith }
 
 -- the same, where a call tells the desk
-pub running_idle : (stream room : List ℕ) (a : Arrays) (d : Desk) → d ≡ idle_desk → Valid a idle_desk → length (lines stream) ≤ 1024 → 33 * length (lines stream) ≤ length room → Running stream room room a d 0
-running_idle stream room a d e v n h = subst (λ (q : Desk). Running stream room room a q 0) (sym e) (running_start stream room a v n h)
+pub running_idle : (stream room : List ℕ) (a : Arrays) (d : Desk) → d ≡ idle_desk → Valid a idle_desk → 33 * length (lines stream) ≤ length room → Running stream room room a d 0
+running_idle stream room a d e v h = subst (λ (q : Desk). Running stream room room a q 0) (sym e) (running_start stream room a v h)
 
 module _ (stream room₀ room : List ℕ) (a : Arrays) (d : Desk) (from : ℕ) (r : Running stream room₀ room a d from) (h : from < length stream) where
   abbrev line : List ℕ
@@ -72,12 +64,6 @@ module _ (stream room₀ room : List ℕ) (a : Arrays) (d : Desk) (from : ℕ) (
   room_left =
       let k : length (lines (drop from stream)) ≡ suc (length later) = ap length (line-cut stream from h) in
       omega (arith, r.space, r.same)
-
-  -- there is room for a ring more
-  pub rings-left : rings_held (service a d) < 1024
-  rings-left =
-      let k : length (lines (drop from stream)) ≡ suc (length later) = ap length (line-cut stream from h) in
-      omega (arith, r.fewer)
 
   module _ (a' : Arrays) (d' : Desk) (room' : List ℕ) (did : Did (step (service a d) line) room d.at a' room' d') where
     abbrev answer : List ℕ
@@ -94,7 +80,6 @@ module _ (stream room₀ room : List ℕ) (a : Arrays) (d : Desk) (from : ℕ) (
         let k : length (lines (drop from stream)) ≡ suc (length later) = ap length (line-cut stream from h) in
         let s : length answer ≤ 33 = step-short (service a d) line in
         let e : line_end_of stream from ≤ length stream = end_inside stream from (omega arith) in
-        let g : rings_held (service a' d') ≤ rings_held (service a d) + 1 = subst (λ (st : State). rings_held st ≤ rings_held (service a d) + 1) (sym did.next) (rings-step (service a d) line) in
         let n : length (answer ++ run (service a' d') later) ≡ length answer + length (run (service a' d') later) = length-append answer (run (service a' d') later) in
         let m : length (run (service a d) (lines (drop from stream))) ≡ length (answer ++ run (service a' d') later) = ap length run_on in
         record {
@@ -102,7 +87,6 @@ module _ (stream room₀ room : List ℕ) (a : Arrays) (d : Desk) (from : ℕ) (
           inside = omega arith;
           same = ap length did.wrote ∙ length-sets room d.at answer ∙ r.same;
           space = omega (arith, r.space, did.past);
-          fewer = omega (arith, r.fewer);
           rest =
               ap₂ (λ (q : List ℕ) (i : ℕ). sets q i (run (service a' d') later)) did.wrote did.past
               ∙ sets_append answer (run (service a' d') later) room d.at

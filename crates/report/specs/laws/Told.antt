@@ -1,9 +1,9 @@
 -- What is kept tells the report, and the answer about one polygon.
 use Prim.Native.Nat.{ℕ, zero, suc, ◌+◌, ◌*◌, ◌-◌, ◌/◌, ◌%◌, ◌≤◌, ◌<◌}
 use native.Mathlib.Omega.{arith}
-use Rattle.std.proofs.Common.{le_refl, ◌∙◌, true≢false, ⊎_elim, le-ltb, ltb-false, get_or-take, length-take-le}
 use Rattle.std.specs.Prelude.{◌≡◌, Bool, true, false, ltb, take, ℤ, pos, ◌+ℤ◌}
 use Rattle.std.proofs.Math.Path.{refl, sym, ap, ap₂, subst}
+use Rattle.std.proofs.Common.{◌∙◌, ⊎_elim, le-ltb, ltb-false, get_or-take, length-take-le}
 use mathlib.Core.List.{List, [], ◌∷◌, map}
 use Rattle.std.proofs.Math.Option.{Option, none, some}
 use Rattle.std.proofs.Math.ListN.{length, get_or, length-map}
@@ -13,14 +13,16 @@ use Rattle.whole.specs.held.Small.{Small}
 use Rattle.whole.specs.laws.Size.{small_zero, small_add, small_more}
 use Rattle.polygon.specs.declared.Finding.{Finding}
 use Rattle.polygon.specs.declared.Finding.TheVariants.{Sound}
+use Rattle.polygon.specs.Ring.{finding_number_of}
 use Rattle.inner.specs.Finding.{finding, part}
+use Rattle.inner.specs.laws.One.{one-part}
 use Rattle.inner.specs.laws.Kept.{finding-take, part-take}
-use Rattle.inner.specs.laws.Tables.{part-of-small}
 use Rattle.ring.specs.Polygon.{one}
-use Rattle.ring.specs.laws.Owners.{firsts_ordered}
 use Rattle.space.specs.held.Points.{points_of}
+use Rattle.volume.specs.laws.PartSizes.{part_small}
 use Rattle.shell.specs.declared.Shape.{Shape}
-use Rattle.ring.specs.held.Rings.{polygon_at, polygons}
+use Rattle.ring.specs.held.Rings.{ring_at, polygon_at, polygons}
+use Rattle.holes.specs.held.Rings.{Ring}
 use Rattle.shell.specs.Shell.{shape, shape_number_of}
 use Rattle.shell.specs.held.Kept.{Edged}
 use Rattle.directions.specs.laws.Now.{now_is}
@@ -32,11 +34,10 @@ use Rattle.building.specs.Report.{findings, is_fault, lowest_fault, six_volume_o
 use Rattle.edges.specs.laws.Tallies.{tally-map}
 use Rattle.whole.specs.laws.Places.{tab-length, tab-at}
 use Rattle.building.specs.laws.Lists.{tab_ext, take_is_tab, map-tab}
-use Rattle.building.specs.laws.Findings.{kept_is, kept_fault}
+use Rattle.building.specs.laws.Findings.{kept_number, kept_is, kept_fault, Early, broken_one}
 use Rattle.polygon.specs.held.Findings.{kept_finding, finding_of}
 use Rattle.building.specs.held.Holds.{Arrays, held_tables, held_building, Loaded, Found, Summed, Broken, Kept}
-use Rattle.building.specs.laws.Rings.{stands_of, polygon_below}
-use Rattle.building.specs.laws.Unmendable.{unmendable_fault}
+use Rattle.building.specs.laws.Rings.{ring_of, ring_length, one_each, rings-many, polygon_below}
 use Rattle.totals.specs.held.Scans.{lowest, sum_up_to, Summable}
 use Rattle.totals.specs.laws.Scans.{lowest_is_length, lowest-inside, above, sum_more}
 
@@ -157,12 +158,13 @@ module _ {points : List ℤ} {entries starts firsts : List ℕ} {s : Scalars} (l
           let k : length (findings told) ≤ lowest (map kept_finding (findings told)) = omega (arith, low-is, findings-count) in
           ap (λ (o : Option Verdict). first Accepted (o ∷ shape_fault (shape told.polygons) ∷ given (le_z (six_volume_of told) (pos 0)) Inward ∷ [])) (lowest-none 0 (findings told) k)
 
-      -- and so none is one that no correction mends
+      -- and so none is broken
       pub told-whole : s.polygons ≤ low → Broken entries starts firsts s.polygons → ⊥
       told-whole h b =
-          let f : Finding = finding s.tolerance (points_of points) (polygon_at entries starts firsts b.polygon) in
           let e : get_or found b.polygon 0 ≡ 0 = sym (get_or-take s.polygons found b.polygon 0 b.below) ∙ lowest-before (take s.polygons found) b.polygon (omega (arith, b.below)) in
-          true≢false (sym (kept_fault f ∙ unmendable_fault s.tolerance (points_of points) (polygon_at entries starts firsts b.polygon) b.broken) ∙ ap (ltb 0) (sym (fo.each b.polygon b.below) ∙ e))
+          let y : Early (finding_number_of (finding s.tolerance (points_of points) (polygon_at entries starts firsts b.polygon))) = broken_one s.tolerance (points_of points) (polygon_at entries starts firsts b.polygon) (ring_at entries starts b.polygon) (one_each ld b.polygon b.below) b.broken in
+          let z = kept_number (finding s.tolerance (points_of points) (polygon_at entries starts firsts b.polygon)) (fo.each b.polygon b.below) in
+          omega (arith, y.least)
 
   module _ {parts : List ℤ} (su : Summed points entries starts firsts parts s) where
     pub kept-part : (p : ℕ) → p < s.polygons → get_or parts p (pos 0) ≡ part told.points (get_or told.polygons p (one []))
@@ -178,34 +180,28 @@ module _ {points : List ℤ} {entries starts firsts : List ℕ} {s : Scalars} (l
         ∙ sym (map-tab (part (take s.points (points_of points))) (polygon_at entries starts firsts) s.polygons))
         ∙ sum-map (part (take s.points (points_of points))) (tab (polygon_at entries starts firsts) s.polygons)
 
-    -- where the entries of polygon i start
-    abbrev start : ℕ → ℕ
-    start i = get_or starts (get_or firsts i 0) 0
-
-    start-ordered : (i j : ℕ) → i ≤ j → j ≤ s.polygons → start i ≤ start j
-    start-ordered i j h k = ld.layout.ordered (get_or firsts i 0) (get_or firsts j 0) (firsts_ordered entries starts firsts s.polygons ld.layout i j h k) (firsts_ordered entries starts firsts s.polygons ld.layout j s.polygons k (le_refl s.polygons))
-
     -- the sum of the first i parts is at most 6·10^15 for each entry up to there
-    sum-small : (i : ℕ) → i ≤ s.polygons → Small (start i * 6000000000000000) (sum_up_to parts i)
+    sum-small : (i : ℕ) → i ≤ s.polygons → Small (get_or starts i 0 * 6000000000000000) (sum_up_to parts i)
     unfolding sum_of
     sum-small zero h = small_zero
     sum-small (suc i) h =
-        let l = (stands_of ld i (omega arith)).lies in
-        let f : start i ≤ start (i + 1) = start-ordered i (i + 1) (omega arith) (omega arith) in
+        let r : Ring entries starts i = ring_of ld i (omega (arith, rings-many ld)) in
+        let l : length (ring_at entries starts i) ≡ get_or starts (i + 1) 0 - get_or starts i 0 = ring_length entries starts i r.entries-size r.inside in
+        let f : get_or starts i 0 ≤ get_or starts (i + 1) 0 = r.forward in
         let n : suc i ≡ i + 1 = omega arith in
-        let p : Small ((start (i + 1) - start i) * 6000000000000000) (get_or parts i (pos 0)) = subst (λ (z : ℤ). Small ((start (i + 1) - start i) * 6000000000000000) z) (sym (su.each i (omega arith))) (part-of-small l.rings l.some ld.coords) in
-        let ih : Small (start i * 6000000000000000) (sum_up_to parts i) = sum-small i (omega arith) in
-        rw n (subst (λ (z : ℤ). Small (start (i + 1) * 6000000000000000) z) (sym (sum_more parts i (omega (arith, su.size, ld.layout.few)))) (small_more (grow (start i) (start (i + 1)) f) (small_add ih p)))
+        let p : Small ((length (ring_at entries starts i) - 1) * 6000000000000000) (get_or parts i (pos 0)) = subst (λ (z : ℤ). Small ((length (ring_at entries starts i) - 1) * 6000000000000000) z) (sym (su.each i (omega arith) ∙ (ap (part (points_of points)) (one_each ld i (omega arith)) ∙ one-part (points_of points) (ring_at entries starts i)))) (part_small ld.coords r.known) in
+        let ih : Small (get_or starts i 0 * 6000000000000000) (sum_up_to parts i) = sum-small i (omega arith) in
+        rw n (subst (λ (z : ℤ). Small (get_or starts (i + 1) 0 * 6000000000000000) z) (sym (sum_more parts i (omega (arith, su.size, ld.layout.few)))) (small_more (grow (get_or starts i 0) (get_or starts (i + 1) 0) (length (ring_at entries starts i)) l f) (small_add ih p)))
       where
-        grow : (a e : ℕ) → a ≤ e → a * 6000000000000000 + (e - a) * 6000000000000000 ≤ e * 6000000000000000
-        grow a e g = omega arith
+        grow : (a e l : ℕ) → l ≡ e - a → a ≤ e → a * 6000000000000000 + (l - 1) * 6000000000000000 ≤ e * 6000000000000000
+        grow a e l h g = omega arith
 
     pub kept-summable : Summable parts s.polygons
     kept-summable =
         record {
           size = su.size;
           few = ld.layout.few;
-          small = λ i h. small_more (omega (arith, start-ordered i s.polygons h (le_refl s.polygons), ld.layout.inside)) (sum-small i h);
+          small = λ i h. small_more (omega (arith, ld.layout.ordered i (get_or firsts s.polygons 0) (omega (arith, rings-many ld)) (omega arith), ld.layout.inside)) (sum-small i h);
         }
 
 -- the stamp of a polygon

@@ -1,11 +1,9 @@
 -- `rings::of_polygon` meets its contract.
 use Rattle.rings.specs.laws.Rows.{polygon-misplaced, polygon-absent, polygon-many, polygon-full, polygon-accepted}
 use Rattle.frame.specs.Frame.{numbers}
-use Prim.Native.Nat.{◌+◌, ◌≤◌, ◌<◌}
-use lib.ListN.{drop, get_or}
-use Rattle.rings.specs.held.Rings.{rings_in}
+use lib.ListN.{drop}
 use native.Mathlib.Omega.{arith}
-use borrow.Author.Tests.{not-true, not-false, ltb-true, ltb-false}
+use borrow.Author.Tests.{not-true, not-false}
 use mathlib.Core.Path.{sym, ◌∙◌}
 use borrow.Author.Rules.{rules}
 use Rattle.rings.proofs.of_polygon.Statement.{statement}
@@ -35,21 +33,26 @@ element-copy-out-rings c = search rules
 cast-rings : tie.Need-overflow-cast-rings
 cast-rings c = search rules
 
-is-full-requires : tie.Need-is-full-requires
-is-full-requires c κs = search rules
+mul-used : tie.Need-overflow-mul-used
+mul-used c = search rules
+
+element-copy-out-used : tie.Need-element-copy-out-used
+element-copy-out-used c = search rules
+
+cast-used : tie.Need-overflow-cast-used
+cast-used c = search rules
+
+add-if4 : tie.Need-overflow-add-if4
+add-if4 c = search rules
 
 returns-4 : tie.Need-returns-4
 returns-4 c =
     let n = c.before.before.before.before.before.before.before.before.before.before.requires.0.count in
-    let g = c.before.before.before.before.before.before.before.before.before.before.args in
-    let h : 1024 < get_or g.starts.now (rings_in g.firsts.now g.d) 0 + g.n = ltb-true 1024 _ (sym c.before.is-full.ensures ∙ c.if4.true) in
     polygon-full c.before.before.before.before.before.before.before.before.before.before.args.starts.now c.before.before.before.before.before.before.before.before.before.before.args.firsts.now c.before.before.before.before.before.before.before.before.before.before.args.d (numbers (drop 2 c.before.before.before.before.before.before.before.before.before.before.args.line.now)) (sym c.before.before.before.before.before.before.before.is-loading.ensures ∙ not-false c.before.before.before.before.before.before.before.is-loading.result c.before.before.before.before.before.before.if1.false) (sym c.before.before.before.before.before.names-absent.ensures ∙ c.before.before.before.before.if2.false) c.before.before.before.if3.false (omega arith)
 
 returns-5 : tie.Need-returns-5
 returns-5 c =
     let n = c.before.before.before.before.before.before.before.before.before.before.requires.0.count in
-    let g = c.before.before.before.before.before.before.before.before.before.before.args in
-    let h : get_or g.starts.now (rings_in g.firsts.now g.d) 0 + g.n ≤ 1024 = ltb-false 1024 _ (sym c.before.is-full.ensures ∙ c.if4.false) in
     polygon-accepted c.before.before.before.before.before.before.before.before.before.before.args.starts.now c.before.before.before.before.before.before.before.before.before.before.args.firsts.now c.before.before.before.before.before.before.before.before.before.before.args.d (numbers (drop 2 c.before.before.before.before.before.before.before.before.before.before.args.line.now)) (sym c.before.before.before.before.before.before.before.is-loading.ensures ∙ not-false c.before.before.before.before.before.before.before.is-loading.result c.before.before.before.before.before.before.if1.false) (sym c.before.before.before.before.before.names-absent.ensures ∙ c.before.before.before.before.if2.false) c.before.before.before.if3.false (omega arith)
 
 pub of-polygon-spec : {M : Type 1} → statement M
@@ -64,6 +67,9 @@ of-polygon-spec =
     mul-rings
     element-copy-out-rings
     cast-rings
-    is-full-requires
+    mul-used
+    element-copy-out-used
+    cast-used
+    add-if4
     returns-4
     returns-5)

@@ -1,6 +1,6 @@
--- For each public function: any two results that its statement allows agree in the whole room, the place of the next answer, and what is held.
+-- For the public function: any two results that its statement allows agree in the whole room, the place of the next answer, and what is held.
 use Rattle.std.specs.Prelude.{ℕ, List}
-use Rattle.frame.specs.Frame.{polygon, inner}
+use Rattle.frame.specs.Frame.{polygon}
 use Rattle.building.specs.held.Holds.{Arrays}
 use Rattle.desk.specs.declared.Desk.{Desk}
 use Rattle.desk.specs.held.Holds.{service, Did, does}
@@ -9,6 +9,3 @@ use Rattle.desk.specs.laws.Agree.{Same, did_agree}
 module _ (a : Arrays) (d : Desk) (room room₁ room₂ : List ℕ) (a₁ a₂ : Arrays) (d₁ d₂ : Desk) where
   pub add_polygon_agrees : (ring : List ℕ) → Did (does (service a d) (polygon ring)) room d.at a₁ room₁ d₁ → Did (does (service a d) (polygon ring)) room d.at a₂ room₂ d₂ → Same room₁ room₂ a₁ a₂ d₁ d₂
   add_polygon_agrees ring = did_agree
-
-  pub add_inner_agrees : (ring : List ℕ) → Did (does (service a d) (inner ring)) room d.at a₁ room₁ d₁ → Did (does (service a d) (inner ring)) room d.at a₂ room₂ d₂ → Same room₁ room₂ a₁ a₂ d₁ d₂
-  add_inner_agrees ring = did_agree

@@ -1,142 +1,95 @@
--- What a polygon more or an inner ring more has done: what it wrote and what it holds are the outcome of its frame.
-use Rattle.std.specs.Prelude.{ℕ, ◌+◌, ◌-◌, ◌≤◌, ◌<◌, ◌≡◌, refl, true, leb, get_or, set}
-use native.Mathlib.Omega.{arith}
-use Rattle.std.proofs.Math.Path.{sym, ap, subst}
-use Rattle.std.proofs.Common.{◌∙◌}
+-- What a polygon more has done: what it wrote and what it holds are the outcome of its frame.
+use Rattle.std.specs.Prelude.{ℕ, ◌+◌, ◌≤◌, ◌<◌, ◌≡◌, true, leb, get_or, set, ℤ}
+use Rattle.std.proofs.Common.{sym, ◌∙◌}
+use Rattle.std.proofs.Math.Path.{ap, subst}
 use mathlib.Core.List.{List}
 use Rattle.std.proofs.Math.ListN.{length}
 use Rattle.std.proofs.lemmas.List.Edits.{sets}
 use Rattle.whole.specs.Lists.{any}
 use Rattle.whole.specs.All.{All}
 use Rattle.lines.specs.Lines.{ended}
-use Rattle.frame.specs.Frame.{Frame, polygon, inner}
+use Rattle.frame.specs.Frame.{polygon}
 use Rattle.answer.specs.Answer.{plain}
 use Rattle.answer.specs.held.Wrote.{Wrote}
-use Rattle.ring.specs.Polygon.{all_rings}
-use Rattle.ring.specs.laws.Owners.{firsts_ordered}
 use Rattle.shell.specs.declared.Shape.TheVariants.{Whole}
-use Rattle.building.specs.Tables.{Tables}
-use Rattle.building.specs.held.Holds.{Arrays, held_tables, Loaded}
-use Rattle.building.specs.laws.Load.{tables-points, tables-rings}
-use Rattle.building.specs.laws.Added.{Room, loaded_ring, tables-polygon, tables-inner}
+use Rattle.building.specs.Tables.{loaded}
+use Rattle.building.specs.held.Holds.{Arrays, held_tables, held_building, Loaded}
+use Rattle.building.specs.laws.Load.{Room, tables-points, loaded-polygon, tables-polygon}
 use Rattle.service.specs.declared.Refusal.{Refusal}
-use Rattle.service.specs.Service.{State, loading, tables_of, is_absent, refusal, takes, answer_to, Outcome, is_accepted_of}
-use Rattle.service.specs.laws.Fresh.{known_ring}
+use Rattle.service.specs.Service.{State, loading, tables_of, is_misplaced_of, is_absent, refusal, takes, answer_to, Outcome, is_accepted_of}
+use Rattle.service.specs.laws.Fresh.{Passed, known_ring}
+use Rattle.modes.specs.declared.Mode.TheVariants.{Loading}
 use Rattle.desk.specs.declared.Desk.{Desk}
 use Rattle.modes.specs.held.Mode.{loads}
 use Rattle.desk.specs.held.Holds.{state_of, service, Valid, Did, does}
 use Rattle.desk.specs.laws.Rows.{tables, loads_is, service-loads}
-use Rattle.desk.specs.laws.Dids.{did_accepted, passed_row, not-held, loading_not_nothing}
-use Rattle.rings.specs.held.Rings.{with_rings, rings_in, Ends, Fits, PolygonRow, InnerRow, ring_desk, Added}
+use Rattle.desk.specs.laws.Dids.{did_accepted, passed_row, loading_mode, not-held, loading_not_nothing}
+use Rattle.building.specs.declared.Scalars.{Scalars}
+use Rattle.building.specs.laws.Rings.{rings-many}
+use Rattle.rings.specs.held.Rings.{with_rings, Ends}
 
--- where the rings of what is held end, of which there are fewer than 1,024
-pub ends_of : (a : Arrays) (d : Desk) → Valid a d → length (all_rings (tables_of (service a d)).polygons) < 1024 → Ends a.starts a.firsts d
-unfolding tables_of
-ends_of a d v few =
-    let y = v.loaded.layout in
-    record {
-      starts_size = y.starts_size;
-      firsts_size = y.firsts_size;
-      few = y.few;
-      many = y.many;
-      forward = firsts_ordered a.entries a.starts a.firsts d.held.polygons y (d.held.polygons - 1) d.held.polygons (omega arith) (omega arith);
-      inside = y.inside;
-      fewer = λ l. subst (λ (n : ℕ). n < 1024) (ap (λ (st : State). length (all_rings (tables_of st).polygons)) (service-loads a d l) ∙ tables-rings v.loaded) few;
-    }
+-- where the rings of loaded tables end
+pub ends_of : {points : List ℤ} {entries starts firsts : List ℕ} {s : Scalars} → Loaded points entries starts firsts s → Ends starts firsts s.polygons
+ends_of ld = record { starts_size = ld.layout.starts_size; firsts_size = ld.layout.firsts_size; few = ld.layout.few; rings = rings-many ld; inside = ld.layout.inside }
 
 -- arrays that are as they were, three of them under other names
 pub did_rings : (o : Outcome) (room : List ℕ) (at : ℕ) (a : Arrays) (room' : List ℕ) (d : Desk) (ents starts firsts : List ℕ) → a.entries ≡ ents → a.starts ≡ starts → a.firsts ≡ firsts → Did o room at a room' d
     → Did o room at (with_rings ents starts firsts a) room' d
 did_rings o room at a room' d ents starts firsts e f g h = subst (λ (w : Arrays). Did o room at w room' d) (λ i. with_rings (e i) (f i) (g i) a) h
 
--- ---- a frame that brings a ring
-pub record Brings (f : Frame) (ring : List ℕ) : Type 0 where
-  pub absent : (t : Tables) → is_absent t f ≡ any (leb (length t.points)) ring
-  pub answer : (st : State) → answer_to f st ≡ plain 0
+module _ (a : Arrays) (d : Desk) (v : Valid a d) (ring : List ℕ) (r : Refusal) (row : r ≡ refusal (service a d) (polygon ring)) (t : is_accepted_of r ≡ true) where
+  polygon_passed : Passed (service a d) (polygon ring)
+  polygon_passed = passed_row (service a d) (polygon ring) r row t
 
-polygon_brings : (ring : List ℕ) → Brings (polygon ring) ring
-unfolding is_absent answer_to
-polygon_brings ring = record { absent = λ t. refl; answer = λ st. refl }
+  polygon-loads : loads d.mode ≡ true
+  unfolding is_misplaced_of service
+  polygon-loads = loading_mode d.mode (tables a d) (held_building a d.held) polygon_passed.placed
 
-inner_brings : (ring : List ℕ) → Brings (inner ring) ring
-unfolding is_absent answer_to
-inner_brings ring = record { absent = λ t. refl; answer = λ st. refl }
+  polygon_known : All (λ (e : ℕ). e < d.held.points) ring
+  unfolding is_absent tables_of
+  polygon_known =
+      known_ring d.held.points ring
+      (ap (λ (k : ℕ). any (leb k) ring) (sym (tables-points v.loaded))
+      ∙ ap (λ (st : State). any (leb (length (tables_of st).points)) ring) (sym (service-loads a d polygon-loads))
+      ∙ polygon_passed.known)
 
-module _ (a : Arrays) (d : Desk) (v : Valid a d) (f : Frame) (ring : List ℕ) (b : Brings f ring) (r : Refusal) (row : r ≡ refusal (service a d) f) (t : is_accepted_of r ≡ true) (short : length ring ≤ 128) (ends : Ends a.starts a.firsts d) where
-  module _ (p : ℕ) (near : p ≤ d.held.polygons) (fits : Fits a.starts a.firsts d p ring) where
-    ring-known : All (λ (e : ℕ). e < d.held.points) ring
-    unfolding tables_of
-    ring-known =
-        known_ring d.held.points ring
-        (ap (λ (k : ℕ). any (leb k) ring) (sym (tables-points v.loaded))
-        ∙ sym (b.absent (tables a d))
-        ∙ ap (λ (st : State). is_absent (tables_of st) f) (sym (service-loads a d fits.loading))
-        ∙ (passed_row (service a d) f r row t).known)
+  -- one polygon more
+  abbrev pub polygon_desk : ℕ → Desk
+  polygon_desk at =
+      record {
+        mode = Loading;
+        held = record { tolerance = d.held.tolerance; points = d.held.points; polygons = d.held.polygons + 1; last = d.held.last; edges = d.held.edges; fixed = Whole; shape = Whole };
+        at = at;
+      }
 
-    room_for : Room a.entries a.starts a.firsts d.held p ring
-    room_for = record { few = fits.few; near = near; rings = ends.fewer fits.loading; space = fits.space; short = short; known = ring-known }
+  -- the number of rings, and of entries
+  abbrev rings : ℕ
+  rings = get_or a.firsts d.held.polygons 0
 
-    abbrev from : ℕ
-    from = get_or a.starts (rings_in a.firsts d) 0
+  abbrev from : ℕ
+  from = get_or a.starts rings 0
 
-    -- the tables that are held then
-    abbrev then-held : Tables
-    then-held = held_tables a.points (sets a.entries from ring) (set a.starts (rings_in a.firsts d + 1) (from + length ring)) (set a.firsts (p + 1) (rings_in a.firsts d + 1)) (ring_desk d p 0).held
+  space_for : d.held.polygons < 256 → from + length ring ≤ 1024 → length ring ≤ 128 → Room a.entries a.starts a.firsts d.held ring
+  space_for few space short = record { few = few; space = space; short = short; known = polygon_known }
 
-    did-desk : {ents starts firsts : List ℕ} → ents ≡ sets a.entries from ring → starts ≡ set a.starts (rings_in a.firsts d + 1) (from + length ring) → firsts ≡ set a.firsts (p + 1) (rings_in a.firsts d + 1)
-        → (room room' : List ℕ) (at : ℕ) → Wrote (ended (plain 0)) room d.at room' at → loading then-held ≡ takes (service a d) f
-        → Did (does (service a d) f) room d.at (with_rings ents starts firsts a) room' (ring_desk d p at)
-    unfolding service state_of
-    did-desk {ents} {starts} {firsts} e g h room room' at w took =
-        did_accepted (service a d) f r room room' d.at (with_rings ents starts firsts a) (ring_desk d p at) row t
-        (record {
-          loaded = subst (λ (q : List ℕ). Loaded a.points q starts firsts (ring_desk d p at).held) (sym e)
-              (subst (λ (q : List ℕ). Loaded a.points (sets a.entries from ring) q firsts (ring_desk d p at).held) (sym g)
-              (subst (λ (q : List ℕ). Loaded a.points (sets a.entries from ring) (set a.starts (rings_in a.firsts d + 1) (from + length ring)) q (ring_desk d p at).held) (sym h)
-              (loaded_ring v.loaded p ring room_for d.held.last d.held.edges Whole Whole)));
-          sizes = record { stamps = v.sizes.stamps; findings = v.sizes.findings; parts = v.sizes.parts; table = v.sizes.table; turned = v.sizes.turned };
-          kept = λ q. absurd (not-held q);
-          chained = λ q. v.chained (loads_is d.mode fits.loading);
-          fresh = λ q. absurd (loading_not_nothing q);
-        })
-        ((λ i. loading (held_tables a.points (e i) (g i) (h i) (ring_desk d p at).held)) ∙ took)
-        (subst (λ (l : List ℕ). Wrote (ended l) room d.at room' at) (sym (b.answer (takes (service a d) f))) w)
-
-    pub did-ring : {ents starts firsts room room' : List ℕ} {d' : Desk} → Added a.entries a.starts a.firsts room d p ring ents starts firsts room' d' → loading then-held ≡ takes (service a d) f
-        → Did (does (service a d) f) room d.at (with_rings ents starts firsts a) room' d'
-    did-ring {ents} {starts} {firsts} {room} {room'} {d'} x took =
-        subst (Did (does (service a d) f) room d.at (with_rings ents starts firsts a) room') (sym x.held) (did-desk x.entered x.started x.closed room room' d'.at x.wrote took)
-
--- what is known of three arrays is known of them under other names
-named : (P : List ℕ → List ℕ → List ℕ → Type 0) {e s f e' s' f' : List ℕ} → e' ≡ e → s' ≡ s → f' ≡ f → P e s f → P e' s' f'
-named P {e} {s} {f} {e'} {s'} {f'} p q r h = subst (λ (x : List ℕ). P x s' f') (sym p) (subst (λ (y : List ℕ). P e y f') (sym q) (subst (λ (z : List ℕ). P e s z) (sym r) h))
-
-module _ (a : Arrays) (d : Desk) (v : Valid a d) (ring : List ℕ) (r : Refusal) (t : is_accepted_of r ≡ true) (short : length ring ≤ 128) {ents starts firsts : List ℕ} (ee : a.entries ≡ ents) (se : a.starts ≡ starts) (fe : a.firsts ≡ firsts) (ends : Ends starts firsts d) where
-  ends-here : Ends a.starts a.firsts d
-  ends-here = named (λ x y z. Ends y z d) ee se fe ends
-
-  module _ {p : ℕ} {room ents' starts' firsts' room' : List ℕ} {d' : Desk} (x : Added ents starts firsts room d p ring ents' starts' firsts' room' d') where
-    added-here : Added a.entries a.starts a.firsts room d p ring ents' starts' firsts' room' d'
-    added-here = named (λ e s f. Added e s f room d p ring ents' starts' firsts' room' d') ee se fe x
-
-    pub did-polygon : PolygonRow starts firsts d ring r → p ≡ d.held.polygons → Did (does (service a d) (polygon ring)) room d.at (with_rings ents' starts' firsts' a) room' d'
-    unfolding takes tables_of
-    did-polygon row e =
-        let f : Fits a.starts a.firsts d p ring = named (λ x y z. Fits y z d p ring) ee se fe (subst (λ (k : ℕ). Fits starts firsts d k ring) (sym e) (row.fit t)) in
-        let near : p ≤ d.held.polygons = omega arith in
-        let is : r ≡ refusal (service a d) (polygon ring) = row.is a (se, fe) v in
-        let space = room_for a d v (polygon ring) ring (polygon_brings ring) r is t short ends-here p near f in
-        did-ring a d v (polygon ring) ring (polygon_brings ring) r is t short ends-here p near f added-here
-        (ap loading (tables-polygon v.loaded p ring space d.held.last d.held.edges Whole Whole e) ∙ ap (λ (st : State). takes st (polygon ring)) (sym (service-loads a d f.loading)))
-
-    pub did-inner : InnerRow starts firsts d ring r → p ≡ d.held.polygons - 1 → Did (does (service a d) (inner ring)) room d.at (with_rings ents' starts' firsts' a) room' d'
-    unfolding takes tables_of
-    did-inner row e =
-        let f : Fits a.starts a.firsts d p ring = named (λ x y z. Fits y z d p ring) ee se fe (subst (λ (k : ℕ). Fits starts firsts d k ring) (sym e) (row.fit t).1) in
-        let some : 1 ≤ d.held.polygons = (row.fit t).0 in
-        let near : p ≤ d.held.polygons = omega arith in
-        let late : p + 1 ≡ d.held.polygons = omega arith in
-        let is : r ≡ refusal (service a d) (inner ring) = row.is a (se, fe) v in
-        let space = room_for a d v (inner ring) ring (inner_brings ring) r is t short ends-here p near f in
-        did-ring a d v (inner ring) ring (inner_brings ring) r is t short ends-here p near f added-here
-        (ap loading (tables-inner v.loaded p ring space d.held.last d.held.edges Whole Whole late) ∙ ap (λ (st : State). takes st (inner ring)) (sym (service-loads a d f.loading)))
+  pub did_polygon : d.held.polygons < 256 → from + length ring ≤ 1024 → length ring ≤ 128 → (ents starts firsts : List ℕ) → ents ≡ sets a.entries from ring
+      → starts ≡ set a.starts (rings + 1) (from + length ring)
+      → firsts ≡ set a.firsts (d.held.polygons + 1) (rings + 1)
+      → (room room' : List ℕ) (at : ℕ) → Wrote (ended (plain 0)) room d.at room' at → Did (does (service a d) (polygon ring)) room d.at (with_rings ents starts firsts a) room' (polygon_desk at)
+  unfolding takes answer_to service state_of tables_of
+  did_polygon few space short ents starts firsts e f g room room' at w =
+      did_accepted (service a d) (polygon ring) r room room' d.at (with_rings ents starts firsts a) (polygon_desk at) row t
+      (record {
+        loaded = subst (λ (q : List ℕ). Loaded a.points q starts firsts (polygon_desk at).held) (sym e)
+            (subst (λ (q : List ℕ). Loaded a.points (sets a.entries from ring) q firsts (polygon_desk at).held) (sym f)
+            (subst (λ (q : List ℕ). Loaded a.points (sets a.entries from ring) (set a.starts (rings + 1) (from + length ring)) q (polygon_desk at).held) (sym g)
+            (loaded-polygon v.loaded ring (space_for few space short) d.held.last d.held.edges Whole Whole)));
+        sizes = record { stamps = v.sizes.stamps; findings = v.sizes.findings; parts = v.sizes.parts; table = v.sizes.table; turned = v.sizes.turned };
+        kept = λ q. absurd (not-held q);
+        chained = λ q. v.chained (loads_is d.mode polygon-loads);
+        fresh = λ q. absurd (loading_not_nothing q);
+      })
+      ((λ i. loading (held_tables a.points (e i) (f i) (g i) (polygon_desk at).held))
+      ∙ ap loading (tables-polygon v.loaded ring (space_for few space short) d.held.last d.held.edges Whole Whole)
+      ∙ ap (λ (st : State). takes st (polygon ring)) (sym (service-loads a d polygon-loads)))
+      w

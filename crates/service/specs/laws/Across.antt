@@ -15,7 +15,7 @@ use Rattle.building.specs.Corrections.{Correction, move, turn, corrected, told, 
 use Rattle.building.specs.laws.History.{told-loaded, corrects-told}
 use Rattle.service.specs.declared.Refusal.{Refusal}
 use Rattle.service.specs.declared.Refusal.TheVariants.{Accepted, Malformed, Misplaced, Beyond, Full, Absent, Taken, Late}
-use Rattle.service.specs.Service.{State, holding, tables_of, building_of, is_malformed, is_misplaced_of, is_late, is_absent, is_beyond_of, is_full_of, is_taken, refusal, takes, across_of, answer_to, Outcome, outcome, step, accepts}
+use Rattle.service.specs.Service.{State, holding, tables_of, building_of, is_malformed, is_misplaced_of, is_late, is_absent, is_beyond_of, is_full, is_taken, refusal, takes, across_of, answer_to, Outcome, outcome, step, accepts}
 use Rattle.service.specs.Fresh.{fresh_held}
 use Rattle.service.specs.Span.{Span, loaded_by, corrections_of, corrected_by, held}
 use Rattle.service.specs.laws.Refusals.{accepted_line}
@@ -44,10 +44,10 @@ module _ (st : State) (m n : ℕ) where
       or_either (leb k m) (leb k n) (eqb m n) ∙ ap (λ (e : Bool). leb k n || leb k m || e) (eqb-sym m n)
 
   either_refusal : refusal st (across m n) ≡ refusal st (across n m)
-  unfolding refusal is_malformed is_misplaced_of is_late is_beyond_of is_full_of is_taken
+  unfolding refusal is_malformed is_misplaced_of is_late is_beyond_of is_full is_taken
   either_refusal =
       let f : Frame = across m n in
-      ap (λ (a : Bool). first Accepted (given (is_malformed f) Malformed ∷ given (is_misplaced_of st f) Misplaced ∷ given (is_late (building_of st) f) Late ∷ given a Absent ∷ given (is_beyond_of f) Beyond ∷ given (is_full_of (tables_of st) f) Full ∷ given (is_taken (tables_of st) f) Taken ∷ []))
+      ap (λ (a : Bool). first Accepted (given (is_malformed f) Malformed ∷ given (is_misplaced_of st f) Misplaced ∷ given (is_late (building_of st) f) Late ∷ given a Absent ∷ given (is_beyond_of f) Beyond ∷ given (is_full (tables_of st) f) Full ∷ given (is_taken (tables_of st) f) Taken ∷ []))
       either_absent
 
   either_outcome : (r : Refusal) → outcome r st (across m n) ≡ outcome r st (across n m)

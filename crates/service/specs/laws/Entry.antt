@@ -1,5 +1,5 @@
 -- From lines to bytes: what the entry's statement says of one line of a stream, and a fresh load as bytes.
-use Rattle.std.specs.Prelude.{ℕ, ◌+◌, ◌*◌, ◌≤◌, ◌<◌, ◌≡◌, ℤ, pos}
+use Rattle.std.specs.Prelude.{ℕ, ◌+◌, ◌*◌, ◌≤◌, ◌≡◌, ℤ, pos}
 use native.Mathlib.Omega.{arith}
 use Rattle.std.proofs.Math.Path.{refl, ap}
 use Rattle.std.proofs.Common.{sym, ◌∙◌}
@@ -13,23 +13,18 @@ use Rattle.lines.specs.laws.LineLaws.{NoFeed, lines-joined, length-joined}
 use Rattle.hex.specs.Hex.{digits, bits32}
 use Rattle.hex.specs.laws.Back.{length_digits}
 use Rattle.frame.specs.laws.RoundTrip.{length-four_each}
-use Rattle.frame.specs.Frame.{begin, point, polygon, end_of_load, inner}
+use Rattle.frame.specs.Frame.{begin, point, polygon, end_of_load}
 use Rattle.frame.specs.Encode.{encode, eight, four_each}
 use Rattle.frame.specs.laws.Written.{encode_no_feed}
 use Rattle.space.specs.Space.{Point}
-use Rattle.ring.specs.Polygon.{Polygon, rings_of, all, entries_from, all_rings}
-use Rattle.building.specs.Tables.{Tables, entries, loaded}
-use Rattle.building.specs.laws.Loadable.{Loadable}
-use Rattle.building.specs.laws.History.{points-told}
+use Rattle.ring.specs.Polygon.{Polygon}
+use Rattle.building.specs.Tables.{Tables, entries}
+use Rattle.building.specs.laws.Loadable.{Loadable, PolygonOver}
 use Rattle.service.specs.Service.{State, nothing, step}
 use Rattle.service.specs.Stream.{Served, run, answers, served, Answers, after, Stands}
-use Rattle.service.specs.Fresh.{point_line, inner_line, lines_of, polygon_lines, load_lines, fresh_report, fresh_stream}
-use Rattle.service.specs.Span.{Span, loaded_by, corrections_of, corrected_by}
-use Rattle.service.specs.laws.Span.{end_takes, corrected_loadable}
-use Rattle.service.specs.laws.Across.{corrections_keep}
-use Rattle.service.specs.laws.Rings.{ring_count, rings-turn, parts, load_count, step_lines, lines_after}
+use Rattle.service.specs.Fresh.{point_line, polygon_line, load_lines, fresh_report, fresh_stream}
+use Rattle.service.specs.laws.Fresh.{entries_alone}
 use Rattle.service.specs.laws.Room.{answered-stream}
-use Rattle.building.specs.Corrections as C
 
 -- any two results that the entry's statement allows agree
 pub answer_agrees : (stream room : List ℕ) (c₁ c₂ : ℤ) (r₁ r₂ : List ℕ) → Answers stream room c₁ r₁ → Answers stream room c₂ r₂ → (c₁ ≡ c₂) × (r₁ ≡ r₂)
@@ -56,15 +51,10 @@ unfolding point_line
 points_no_feed [] = none
 points_no_feed (p ∷ ps) = more (encode_no_feed (point p.x p.y p.z)) (points_no_feed ps)
 
-inner_no_feed : (rings : List (List ℕ)) → All NoFeed (map inner_line rings)
-unfolding inner_line
-inner_no_feed [] = none
-inner_no_feed (ring ∷ rings) = more (encode_no_feed (inner ring)) (inner_no_feed rings)
-
-polygons_no_feed : (ps : List Polygon) → All NoFeed (polygon_lines ps)
-unfolding polygon_lines lines_of
+polygons_no_feed : (ps : List Polygon) → All NoFeed (map polygon_line ps)
+unfolding polygon_line
 polygons_no_feed [] = none
-polygons_no_feed (p ∷ ps) = all_append (more (encode_no_feed (polygon p.outer)) (inner_no_feed p.inner)) (polygons_no_feed ps)
+polygons_no_feed (p ∷ ps) = more (encode_no_feed (polygon p.outer)) (polygons_no_feed ps)
 
 pub fresh_lines : (t : Tables) → lines (fresh_stream t) ≡ load_lines t ++ (encode end_of_load ∷ [])
 unfolding fresh_stream load_lines
@@ -87,9 +77,9 @@ length_point p =
     let z : length (eight p.z) ≡ 8 = length_digits 8 (bits32 p.z) in
     omega (arith, length-append (digits 2 2) (eight p.x ++ (eight p.y ++ eight p.z)), length_digits 2 2, length-append (eight p.x) (eight p.y ++ eight p.z), length-append (eight p.y) (eight p.z))
 
--- the line of a ring, of kind n
-length_ring : (n : ℕ) (ring : List ℕ) → length (digits 2 n ++ four_each ring) ≡ 2 + 4 * length ring
-length_ring n ring = omega (arith, length-append (digits 2 n) (four_each ring), length_digits 2 n, length-four_each ring)
+length-polygon : (p : Polygon) → length (polygon_line p) ≡ 2 + 4 * length p.outer
+unfolding polygon_line encode
+length-polygon p = omega (arith, length-append (digits 2 3) (four_each p.outer), length_digits 2 3, length-four_each p.outer)
 
 joined_append : (ls ms : List (List ℕ)) → length (joined (ls ++ ms)) ≡ length (joined ls) + length (joined ms)
 joined_append [] ms = unfold joined in (omega arith)
@@ -99,29 +89,11 @@ points-bytes : (ps : List Point) → length (joined (map point_line ps)) ≡ 27 
 points-bytes [] = unfold joined in refl
 points-bytes (p ∷ ps) = omega (arith, length-joined (point_line p) (map point_line ps), length_point p, points-bytes ps)
 
-inner-bytes : (rings : List (List ℕ)) → length (joined (map inner_line rings)) ≡ 3 * length rings + 4 * length (all (λ r. r) rings)
-unfolding inner_line encode all
-inner-bytes [] = unfold joined in refl
-inner-bytes (ring ∷ rings) =
-    let n : length (ring ++ all (λ r. r) rings) ≡ length ring + length (all (λ r. r) rings) = length-append ring (all (λ r. r) rings) in
-    omega (arith, length-joined (digits 2 8 ++ four_each ring) (map inner_line rings), length_ring 8 ring, inner-bytes rings)
-
-polygon-bytes : (p : Polygon) → length (joined (lines_of p)) ≡ 3 * length (rings_of p) + 4 * length (entries_from p)
-unfolding lines_of encode rings_of entries_from all
-polygon-bytes p =
-    let n : length (p.outer ++ all (λ r. r) p.inner) ≡ length p.outer + length (all (λ r. r) p.inner) = length-append p.outer (all (λ r. r) p.inner) in
-    omega (arith, length-joined (digits 2 3 ++ four_each p.outer) (map inner_line p.inner), length_ring 3 p.outer, inner-bytes p.inner)
-
-polygons-bytes : (ps : List Polygon) → length (joined (polygon_lines ps)) ≡ 3 * ring_count ps + 4 * entries ps
-unfolding polygon_lines all_rings entries
-polygons-bytes [] = unfold joined in refl
-polygons-bytes (p ∷ ps) = omega (arith, joined_append (lines_of p) (polygon_lines ps), polygon-bytes p, length-append (rings_of p) (all_rings ps), polygons-bytes ps)
-
--- one line for each ring
-polygons-lines : (ps : List Polygon) → length (polygon_lines ps) ≡ ring_count ps
-unfolding polygon_lines lines_of all_rings rings_of
-polygons-lines [] = refl
-polygons-lines (p ∷ ps) = omega (arith, length-append (lines_of p) (polygon_lines ps), length-map p.inner inner_line, length-append (rings_of p) (all_rings ps), polygons-lines ps)
+-- a polygon's line has the entries of its one ring
+polygons-bytes : {n : ℕ} (ps : List Polygon) → All (PolygonOver n) ps → length (joined (map polygon_line ps)) ≡ 3 * length ps + 4 * entries ps
+unfolding entries
+polygons-bytes [] none = unfold joined in refl
+polygons-bytes (p ∷ ps) (more r rs) = omega (arith, length-joined (polygon_line p) (map polygon_line ps), length-polygon p, entries_alone p r.alone, polygons-bytes ps rs)
 
 length-begin : (t : ℕ) → length (encode (begin t)) ≡ 6
 unfolding encode
@@ -131,64 +103,40 @@ length_end : length (encode end_of_load) ≡ 2
 unfolding encode
 length_end = length_digits 2 4
 
-module _ (t : Tables) where
-  -- begin, one line for each point and each ring, end of load
-  fresh_count : length (lines (fresh_stream t)) ≡ parts t + 2
+module _ (t : Tables) (ok : Loadable t) where
+  pub fresh_few : length (lines (fresh_stream t)) ≤ 770
   unfolding load_lines
-  fresh_count =
+  fresh_few =
       omega (
         arith,
         ap length (fresh_lines t),
         length-append (load_lines t) (encode end_of_load ∷ []),
-        length-append (map point_line t.points) (polygon_lines t.polygons),
+        length-append (map point_line t.points) (map polygon_line t.polygons),
         length-map t.points point_line,
-        polygons-lines t.polygons,
+        length-map t.polygons polygon_line,
+        ok.points_few,
+        ok.polygons_few,
       )
 
-  -- within the bounds of tables and lines it is within that of bytes
-  fresh_short : Loadable t → length (lines (fresh_stream t)) ≤ 1024 → length (fresh_stream t) ≤ 65535
+  pub fresh_short : length (fresh_stream t) ≤ 18698
   unfolding fresh_stream load_lines
-  fresh_short ok few =
+  fresh_short =
       let e : length (joined []) ≡ 0 = unfold joined in refl in
       omega (
         arith,
         e,
-        few,
-        fresh_count,
         joined_append (load_lines t) (encode end_of_load ∷ []),
-        length-joined (encode (begin t.tolerance)) (map point_line t.points ++ polygon_lines t.polygons),
+        length-joined (encode (begin t.tolerance)) (map point_line t.points ++ map polygon_line t.polygons),
         length-begin t.tolerance,
-        joined_append (map point_line t.points) (polygon_lines t.polygons),
+        joined_append (map point_line t.points) (map polygon_line t.polygons),
         points-bytes t.points,
-        polygons-bytes t.polygons,
+        polygons-bytes t.polygons ok.each,
         length-joined (encode end_of_load) [],
         length_end,
         ok.points_few,
+        ok.polygons_few,
         ok.entries_few,
       )
-
-module _ (before : List (List ℕ)) (end : List ℕ) (since : List (List ℕ)) (s : Span before end since) where
-  -- what a load brought about was brought by as many lines, and corrections leave the numbers of points and rings
-  loaded_by_lem : parts (loaded_by before) + 2 ≤ length before + 1
-  unfolding load_count loaded
-  loaded_by_lem =
-      let e : load_count (step (after nothing before) end).next ≡ parts (loaded_by before) + 2 = ap load_count (end_takes before end since s) in
-      omega (arith, step_lines (after nothing before) end, lines_after nothing before)
-
-  corrected-parts : parts (corrected_by before since) ≡ parts (loaded_by before)
-  unfolding corrected_by C.told
-  corrected-parts =
-      omega (
-        arith,
-        points-told (loaded_by before) (corrections_of before since),
-        corrections_keep ring_count rings-turn (loaded_by before) (corrections_of before since),
-      )
-
-  pub fresh_no_more : length (lines (fresh_stream (corrected_by before since))) ≤ length before + 1
-  fresh_no_more = omega (arith, fresh_count (corrected_by before since), corrected-parts, loaded_by_lem)
-
-  pub fresh_bytes : length before < 1024 → length (fresh_stream (corrected_by before since)) ≤ 65535
-  fresh_bytes h = fresh_short (corrected_by before since) (corrected_loadable before end since s) (omega (arith, fresh_no_more))
 
 -- ---- what the entry left in the room
 

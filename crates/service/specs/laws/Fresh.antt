@@ -7,27 +7,27 @@ use Rattle.std.proofs.Math.Path.{ap}
 use Rattle.std.proofs.Math.Bool.{false}
 use Rattle.std.proofs.lemmas.Bool.{false≢true}
 use mathlib.Core.List.{List, [], ◌∷◌, ◌++◌, map, append_assoc, append-nil}
-use borrow.Author.Tests.{ne_eqb, eqb-false, lt-leb, le-ltb, leb-false, ltb-false}
+use borrow.Author.Tests.{lt-leb, le-ltb, leb-false, ltb-false}
 use Rattle.std.proofs.Math.ListN.{length, length-append}
 use Rattle.whole.specs.Lists.{given, first, any}
 use Rattle.whole.specs.laws.Bools.{or_left, or_right}
 use Rattle.whole.specs.All.{All, none, more}
 use Rattle.whole.specs.laws.Alls.{all_imp, any_none, none_any}
-use Rattle.frame.specs.Frame.{Frame, begin, point, polygon, end_of_load, move, turn, question, inner, across, broken, decode}
+use Rattle.frame.specs.Frame.{Frame, begin, point, polygon, end_of_load, move, turn, question, across, broken, decode}
 use Rattle.frame.specs.Encode.{encode}
 use Rattle.hex.specs.laws.Back.{Fits32, above, below}
-use Rattle.frame.specs.laws.RoundTrip.{decode-begin, decode_end, decode_point, decode-polygon, decode-inner, WellFormed, decode_well}
+use Rattle.frame.specs.laws.RoundTrip.{decode-begin, decode_end, decode_point, decode-polygon, WellFormed, decode_well}
 use Rattle.space.specs.Space.{Point}
 use Rattle.places.specs.Points.{is_far_of, stands}
-use Rattle.ring.specs.Polygon.{Polygon, one, rings_of, all, entries_from}
-use Rattle.building.specs.Tables.{Tables, Building, begun, with_point, with_polygon, with_ring, last_polygon, with_inner, entries, loaded}
-use Rattle.building.specs.laws.Last.{front-snoc, last_snoc}
-use Rattle.building.specs.laws.Loadable.{Apart, Loadable, RingOver, PolygonOver, apart-stands, entries_append, entries_more, entries_ring, loadable_begun, loadable_point, loadable_polygon, loadable_inner, loadable_moved, loadable_turned}
+use Rattle.ring.specs.Polygon.{Polygon, one, entries_from}
+use Rattle.ring.specs.laws.Turned.{entries-one}
+use Rattle.building.specs.Tables.{Tables, Building, begun, with_point, with_polygon, entries, loaded}
+use Rattle.building.specs.laws.Loadable.{Apart, Loadable, RingOver, PolygonOver, apart-stands, entries_append, loadable_begun, loadable_point, loadable_polygon, loadable_moved, loadable_turned}
 use Rattle.service.specs.declared.Refusal.TheVariants.{Accepted, Malformed, Misplaced, Beyond, Full, Absent, Taken, Late}
-use Rattle.service.specs.Service.{State, nothing, loading, holding, tables_of, building_of, is_loading_of, is_holding_of, is_malformed, is_misplaced_of, is_late, is_absent, is_beyond_of, is_full_of, is_taken, refusal, takes, report_of, answer_to, Outcome, outcome, step, is_accepted_of, accepts}
+use Rattle.service.specs.Service.{State, nothing, loading, holding, tables_of, building_of, is_loading_of, is_holding_of, is_malformed, is_misplaced_of, is_late, is_absent, is_beyond_of, is_full, is_taken, refusal, takes, report_of, answer_to, Outcome, outcome, step, is_accepted_of, accepts}
 use Rattle.service.specs.laws.Refusals.{refused_keeps, accepted_keeps, accepted_line}
 use Rattle.service.specs.Stream.{after}
-use Rattle.service.specs.Fresh.{point_line, inner_line, lines_of, polygon_lines, load_lines, fresh_report}
+use Rattle.service.specs.Fresh.{point_line, polygon_line, load_lines, fresh_report}
 use Rattle.service.specs.Span.{is_correction}
 
 -- ---- an accepted frame passed every test
@@ -38,7 +38,7 @@ pub record Passed (st : State) (f : Frame) : Type 0 where
   pub timely : is_late (building_of st) f ≡ false
   pub known : is_absent (tables_of st) f ≡ false
   pub within : is_beyond_of f ≡ false
-  pub room : is_full_of (tables_of st) f ≡ false
+  pub room : is_full (tables_of st) f ≡ false
   pub free : is_taken (tables_of st) f ≡ false
 
 rows : (a b c d e f g : Bool)
@@ -57,7 +57,7 @@ rows false false false false false false false h = (refl, refl, refl, refl, refl
 pub passed : (st : State) (f : Frame) → is_accepted_of (refusal st f) ≡ true → Passed st f
 unfolding refusal
 passed st f h =
-    let r = rows (is_malformed f) (is_misplaced_of st f) (is_late (building_of st) f) (is_absent (tables_of st) f) (is_beyond_of f) (is_full_of (tables_of st) f) (is_taken (tables_of st) f) h in
+    let r = rows (is_malformed f) (is_misplaced_of st f) (is_late (building_of st) f) (is_absent (tables_of st) f) (is_beyond_of f) (is_full (tables_of st) f) (is_taken (tables_of st) f) h in
     record { formed = r.0; placed = r.1; timely = r.2; known = r.3; within = r.4; room = r.5; free = r.6 }
 
 pub passes : (st : State) (f : Frame) → Passed st f → refusal st f ≡ Accepted
@@ -75,7 +75,7 @@ pub known_ring : (n : ℕ) (ring : List ℕ) → any (leb n) ring ≡ false → 
 known_ring n ring e = all_imp (λ i h. leb-false n i h) (any_none (leb n) ring e)
 
 takes_sound : (st : State) (f : Frame) → Sound st → WellFormed f → Passed st f → Sound (takes st f)
-unfolding takes tables_of building_of is_misplaced_of is_loading_of is_holding_of is_absent is_beyond_of is_full_of is_taken loaded
+unfolding takes tables_of building_of is_misplaced_of is_loading_of is_holding_of is_absent is_beyond_of is_full is_taken loaded
 takes_sound st (begin t) s w p = load (loadable_begun t (ltb-false 1000 t p.within))
 takes_sound nothing (point x y z) s w p = absurd (true≢false p.placed)
 takes_sound (loading t) (point x y z) (load ok) w p = load (loadable_point t ok _ p.within (leb-false 512 (length t.points) p.room) p.free)
@@ -96,15 +96,6 @@ takes_sound nothing (turn number n) s w p = absurd (true≢false p.placed)
 takes_sound (loading t) (turn number n) s w p = absurd (true≢false p.placed)
 takes_sound (holding b) (turn number n) (hold ok) w p = hold (loadable_turned b ok number n)
 takes_sound st (question n) s w p = s
-takes_sound nothing (inner ring) s w p = absurd (true≢false p.placed)
-takes_sound (loading t) (inner ring) (load ok) w p =
-    let some : length t.polygons ≡ 0 → ⊥ = eqb-false (length t.polygons) 0 p.placed in
-    let full : Bool = leb 8 (length (last_polygon t).inner) in
-    let over : Bool = ltb 1024 (entries t.polygons + length ring) in
-    load (loadable_inner t ok ring (record { few = w; known = known_ring (length t.points) ring p.known }) (omega arith)
-    (leb-false 8 (length (last_polygon t).inner) (or_left full over p.room))
-    (ltb-false 1024 (entries t.polygons + length ring) (or_right full over p.room)))
-takes_sound (holding b) (inner ring) s w p = absurd (true≢false p.placed)
 takes_sound st (across m n) s w p = s
 takes_sound st broken s w p = s
 
@@ -122,6 +113,11 @@ after_sound st [] s = s
 after_sound st (l ∷ ls) s = after_sound (step st l).next ls (step_sound st l s)
 
 -- ---- the lines of tables
+
+-- a polygon of one ring lists its entries
+pub entries_alone : (p : Polygon) → p.inner ≡ [] → length (entries_from p) ≡ length p.outer
+unfolding one
+entries_alone p a = ap (λ (q : List (List ℕ)). length (entries_from (record { outer = p.outer; inner = q }))) a ∙ ap length (entries-one p.outer)
 
 pub after_append : (st : State) (ls ms : List (List ℕ)) → after st (ls ++ ms) ≡ after (after st ls) ms
 unfolding after
@@ -155,7 +151,7 @@ module _ (tolerance : ℕ) where
   partly ps qs = loading (record { tolerance = tolerance; points = ps; polygons = qs })
 
   point_passes : (done : List Point) (p : Point) → is_far_of p ≡ false → length done < 512 → stands p done ≡ false → Passed (partly done []) (point p.x p.y p.z)
-  unfolding is_malformed is_misplaced_of is_loading_of is_late is_absent is_beyond_of is_full_of is_taken tables_of
+  unfolding is_malformed is_misplaced_of is_loading_of is_late is_absent is_beyond_of is_full is_taken tables_of
   point_passes done p far few new =
       record { formed = refl; placed = refl; timely = refl; known = refl; within = far; room = lt-leb 512 (length done) few; free = new }
 
@@ -180,7 +176,7 @@ module _ (tolerance : ℕ) where
 
   module _ (ps : List Point) (few-points : length ps ≤ 512) where
     polygon-passes : (done : List Polygon) (ring : List ℕ) → RingOver (length ps) ring → length done < 256 → entries done + length ring ≤ 1024 → Passed (partly ps done) (polygon ring)
-    unfolding is_malformed is_misplaced_of is_loading_of is_late is_absent is_beyond_of is_full_of is_taken tables_of
+    unfolding is_malformed is_misplaced_of is_loading_of is_late is_absent is_beyond_of is_full is_taken tables_of
     polygon-passes done ring r few room =
         record {
           formed = refl;
@@ -192,81 +188,31 @@ module _ (tolerance : ℕ) where
           free = refl;
         }
 
-    polygon-step : (done : List Polygon) (ring : List ℕ) → RingOver (length ps) ring → length done < 256 → entries done + length ring ≤ 1024
-        → (step (partly ps done) (encode (polygon ring))).next ≡ partly ps (done ++ (one ring ∷ []))
-    unfolding takes tables_of with_polygon
-    polygon-step done ring r few room =
-        next-encode (partly ps done) (polygon ring) (decode-polygon ring r.few (all_imp (λ e h. omega arith) r.known)) (polygon-passes done ring r few room)
-
-    module _ (done : List Polygon) where
-      -- a polygon in the course of a load, with some of its inner rings
-      abbrev with_last : Polygon → State
-      with_last p = partly ps (done ++ (p ∷ []))
-
-      inner-passes : (p : Polygon) (ring : List ℕ) → RingOver (length ps) ring → length p.inner < 8 → entries (done ++ (p ∷ [])) + length ring ≤ 1024 → Passed (with_last p) (inner ring)
-      unfolding is_malformed is_misplaced_of is_loading_of is_late is_absent is_beyond_of is_full_of is_taken tables_of last_polygon
-      inner-passes p ring r few room =
-          let some : length (done ++ (p ∷ [])) ≡ length done + 1 = length-append done (p ∷ []) in
-          record {
-            formed = refl;
-            placed = ne_eqb (length (done ++ (p ∷ []))) 0 (λ e. omega arith);
-            timely = refl;
-            known = known_any (length ps) ring r.known;
-            within = refl;
-            room = rw (last_snoc (one []) done p, lt-leb 8 (length p.inner) few, le-ltb 1024 (entries (done ++ (p ∷ [])) + length ring) room);
-            free = refl;
-          }
-
-      inner-step : (p : Polygon) (ring : List ℕ) → RingOver (length ps) ring → length p.inner < 8 → entries (done ++ (p ∷ [])) + length ring ≤ 1024
-          → (step (with_last p) (inner_line ring)).next ≡ with_last (with_ring ring p)
-      unfolding inner_line takes tables_of with_inner last_polygon
-      inner-step p ring r few room =
-          next-encode (with_last p) (inner ring) (decode-inner ring r.few (all_imp (λ e h. omega arith) r.known)) (inner-passes p ring r few room)
-          ∙ (λ i. partly ps (front-snoc done p i ++ (with_ring ring (last_snoc (one []) done p i) ∷ [])))
-
-      -- the inner rings that are still to come
-      load-inner : (p : Polygon) (rest : List (List ℕ)) → All (RingOver (length ps)) rest → length p.inner + length rest ≤ 8
-          → entries (done ++ (p ∷ [])) + length (all (λ r. r) rest) ≤ 1024
-          → after (with_last p) (map inner_line rest) ≡ with_last (record { outer = p.outer; inner = p.inner ++ rest })
-      unfolding after all with_ring
-      load-inner p [] none h g = ap (λ (rs : List (List ℕ)). with_last (record { outer = p.outer; inner = rs })) (sym (append-nil p.inner))
-      load-inner p (ring ∷ rest) (more r rs) h g =
-          let n : length (ring ++ all (λ r. r) rest) ≡ length ring + length (all (λ r. r) rest) = length-append ring (all (λ r. r) rest) in
-          let m : length (p.inner ++ (ring ∷ [])) ≡ length p.inner + 1 = length-append p.inner (ring ∷ []) in
-          let k : entries (done ++ (with_ring ring p ∷ [])) ≡ entries (done ++ (p ∷ [])) + length ring = entries_ring done p ring in
-          let few : length p.inner < 8 = omega arith in
-          let room : entries (done ++ (p ∷ [])) + length ring ≤ 1024 = omega arith in
-          let ih : after (with_last (with_ring ring p)) (map inner_line rest) ≡ with_last (record { outer = p.outer; inner = (p.inner ++ (ring ∷ [])) ++ rest }) = load-inner (with_ring ring p) rest rs (omega arith) (omega arith) in
-          ap (λ (st : State). after st (map inner_line rest)) (inner-step p ring r few room)
-          ∙ ih
-          ∙ ap (λ (qs : List (List ℕ)). with_last (record { outer = p.outer; inner = qs })) (append_assoc p.inner (ring ∷ []) rest)
-
-      -- a polygon is brought about by its lines
-      load-polygon : (p : Polygon) → All (RingOver (length ps)) (rings_of p) → length p.inner ≤ 8 → length done < 256 → entries done + length (entries_from p) ≤ 1024 → after (partly ps done) (lines_of p) ≡ with_last p
-      unfolding lines_of after entries entries_from rings_of all one
-      load-polygon p (more r rs) eight few room =
-          let n : length (p.outer ++ all (λ r. r) p.inner) ≡ length p.outer + length (all (λ r. r) p.inner) = length-append p.outer (all (λ r. r) p.inner) in
-          let m : entries (done ++ (one p.outer ∷ [])) ≡ entries done + length p.outer = entries_more done p.outer in
-          ap (λ (st : State). after st (map inner_line p.inner)) (polygon-step done p.outer r few (omega arith)) ∙ load-inner (one p.outer) p.inner rs (omega arith) (omega arith)
+    -- a polygon of one ring is brought about by its line
+    polygon-step : (done : List Polygon) (p : Polygon) → PolygonOver (length ps) p → length done < 256 → entries done + length p.outer ≤ 1024
+        → (step (partly ps done) (polygon_line p)).next ≡ partly ps (done ++ (p ∷ []))
+    unfolding polygon_line takes tables_of with_polygon one
+    polygon-step done p r few room =
+        next-encode (partly ps done) (polygon p.outer) (decode-polygon p.outer r.outer.few (all_imp (λ e h. omega arith) r.outer.known)) (polygon-passes done p.outer r.outer few room)
+        ∙ ap (λ (q : List (List ℕ)). partly ps (done ++ (record { outer = p.outer; inner = q } ∷ []))) (sym r.alone)
 
     load-polygons : (done rest : List Polygon) → All (PolygonOver (length ps)) rest → length (done ++ rest) ≤ 256 → entries (done ++ rest) ≤ 1024
-        → after (partly ps done) (polygon_lines rest) ≡ partly ps (done ++ rest)
-    unfolding after polygon_lines entries
+        → after (partly ps done) (map polygon_line rest) ≡ partly ps (done ++ rest)
+    unfolding after entries
     load-polygons done [] none h g = rw append-nil
     load-polygons done (p ∷ rest) (more r all) h g =
         let m : length (done ++ p ∷ rest) ≡ length done + suc (length rest) = length-append done (p ∷ rest) in
         let n : entries (done ++ p ∷ rest) ≡ entries done + (length (entries_from p) + entries rest) = entries_append done (p ∷ rest) in
+        let few : length done < 256 = omega arith in
+        let room : entries done + length p.outer ≤ 1024 = omega (arith, entries_alone p r.alone) in
         let e : done ++ (p ∷ []) ++ rest ≡ done ++ p ∷ rest = append_assoc done (p ∷ []) rest in
-        let s : after (partly ps done) (lines_of p) ≡ partly ps (done ++ (p ∷ [])) = load-polygon done p r.rings r.few (omega arith) (omega arith) in
-        let ih : after (partly ps (done ++ (p ∷ []))) (polygon_lines rest) ≡ partly ps (done ++ (p ∷ []) ++ rest) = load-polygons (done ++ (p ∷ [])) rest all (rw e h) (rw e g) in
-        after_append (partly ps done) (lines_of p) (polygon_lines rest)
-        ∙ ap (λ (st : State). after st (polygon_lines rest)) s
-        ∙ ih
-        ∙ ap (λ (qs : List Polygon). partly ps qs) e
+        let s : (step (partly ps done) (polygon_line p)).next ≡ partly ps (done ++ (p ∷ [])) = polygon-step done p r few room in
+        let ih : after (partly ps (done ++ (p ∷ []))) (map polygon_line rest) ≡ partly ps (done ++ (p ∷ []) ++ rest) = load-polygons (done ++ (p ∷ [])) rest all (rw e h) (rw e g) in
+        ap (λ (st : State). after st (map polygon_line rest)) s ∙ ih ∙ ap (λ (qs : List Polygon). partly ps qs) e
 
 -- begin is accepted in any state
 begin_passes : (st : State) (t : ℕ) → t ≤ 1000 → Passed st (begin t)
-unfolding is_malformed is_misplaced_of is_late is_absent is_beyond_of is_full_of is_taken
+unfolding is_malformed is_misplaced_of is_late is_absent is_beyond_of is_full is_taken
 begin_passes st t h = record { formed = refl; placed = refl; timely = refl; known = refl; within = le-ltb 1000 t h; room = refl; free = refl }
 
 begin-step : (st : State) (t : ℕ) → t ≤ 1000 → (step st (encode (begin t))).next ≡ loading (begun t)
@@ -277,14 +223,14 @@ begin-step st t h = next-encode st (begin t) (decode-begin t (omega arith)) (beg
 pub load_brings : (st : State) (t : Tables) → Loadable t → after st (load_lines t) ≡ loading t
 unfolding load_lines after begun
 load_brings st t ok =
-    ap (λ (s : State). after s (map point_line t.points ++ polygon_lines t.polygons)) (begin-step st t.tolerance ok.tolerant)
-    ∙ after_append (partly t.tolerance [] []) (map point_line t.points) (polygon_lines t.polygons)
-    ∙ ap (λ (s : State). after s (polygon_lines t.polygons)) (load_points t.tolerance [] t.points ok.near ok.apart ok.points_few)
+    ap (λ (s : State). after s (map point_line t.points ++ map polygon_line t.polygons)) (begin-step st t.tolerance ok.tolerant)
+    ∙ after_append (partly t.tolerance [] []) (map point_line t.points) (map polygon_line t.polygons)
+    ∙ ap (λ (s : State). after s (map polygon_line t.polygons)) (load_points t.tolerance [] t.points ok.near ok.apart ok.points_few)
     ∙ load-polygons t.tolerance t.points ok.points_few [] t.polygons ok.each ok.polygons_few ok.entries_few
 
 -- end of load of it answers its report and holds it
 pub end_holds : (t : Tables) → step (loading t) (encode end_of_load) ≡ record { next = holding (loaded t); answer = report_of t }
-unfolding takes tables_of answer_to loaded is_malformed is_misplaced_of is_loading_of is_late is_absent is_beyond_of is_full_of is_taken
+unfolding takes tables_of answer_to loaded is_malformed is_misplaced_of is_loading_of is_late is_absent is_beyond_of is_full is_taken
 end_holds t =
     step-encode (loading t) end_of_load decode_end (record { formed = refl; placed = refl; timely = refl; known = refl; within = refl; room = refl; free = refl })
 
@@ -306,7 +252,6 @@ reports st end_of_load e s = absurd (false≢true e)
 reports st (move number n x y z) e s = sym (fresh_is _ (held_loadable s))
 reports st (turn number n) e s = sym (fresh_is _ (held_loadable s))
 reports st (question n) e s = absurd (false≢true e)
-reports st (inner ring) e s = absurd (false≢true e)
 reports st (across m n) e s = absurd (false≢true e)
 reports st broken e s = absurd (false≢true e)
 

@@ -2,10 +2,10 @@
 use Rattle.std.specs.Prelude.{ℕ, ◌+◌, ◌≡◌, ◌||◌, List, [], ◌∷◌, eqb, leb, ltb, length, ℤ}
 use Rattle.std.proofs.Math.Path.{refl}
 use Rattle.whole.specs.Lists.{given, first, any}
-use Rattle.frame.specs.Frame.{begin, point, polygon, end_of_load, move, turn, question, inner, across, broken}
+use Rattle.frame.specs.Frame.{begin, point, polygon, end_of_load, move, turn, question, across, broken}
 use Rattle.places.specs.Points.{is_far_of, stands, stands_else_of}
-use Rattle.building.specs.Tables.{Tables, Building, last_polygon, entries}
-use Rattle.service.specs.declared.Refusal.TheVariants.{Accepted, Malformed, Misplaced, Beyond, Full, Absent, Taken, Late}
+use Rattle.building.specs.Tables.{Tables, Building, entries}
+use Rattle.service.specs.declared.Refusal.TheVariants.{Accepted, Malformed, Beyond, Full, Absent, Taken, Late}
 use Rattle.service.specs.Service.{State, loading, holding, service_computes, refusal}
 
 pub of_broken : (st : State) → refusal st broken ≡ Malformed
@@ -26,11 +26,6 @@ module _ (t : Tables) where
       ≡ first Accepted (given (any (leb (length t.points)) ring) Absent ∷ given (leb 256 (length t.polygons) || ltb 1024 (entries t.polygons + length ring)) Full ∷ [])
   unfolding service_computes first given
   of_polygon_lem ring = refl
-
-  pub of_inner : (ring : List ℕ) → refusal (loading t) (inner ring)
-      ≡ first Accepted (given (eqb (length t.polygons) 0) Misplaced ∷ given (any (leb (length t.points)) ring) Absent ∷ given (leb 8 (length (last_polygon t).inner) || ltb 1024 (entries t.polygons + length ring)) Full ∷ [])
-  unfolding service_computes first given
-  of_inner ring = refl
 
   pub of_end : refusal (loading t) end_of_load ≡ Accepted
   unfolding service_computes first given

@@ -4,7 +4,7 @@ use Rattle.std.proofs.Common.{sym, ap, ◌∙◌, subst, true≢false}
 use Rattle.std.proofs.Math.Bool.{false}
 use Rattle.std.proofs.lemmas.Bool.{false≢true}
 use Rattle.whole.specs.Lists.{given, first}
-use Rattle.frame.specs.Frame.{Frame, begin, point, polygon, end_of_load, move, turn, question, inner, across, broken, decode}
+use Rattle.frame.specs.Frame.{Frame, begin, point, polygon, end_of_load, move, turn, question, across, broken, decode}
 use Rattle.building.specs.Tables.{Tables}
 use Rattle.building.specs.Corrections.{Correction, told, corrects}
 use Rattle.building.specs.laws.History.{corrects-told}
@@ -25,7 +25,6 @@ takes_told t h end_of_load e n = absurd (false≢true e)
 takes_told t h (move number i x y z) e n = ap holding (corrects-told t h (C.move number i (record { x = x; y = y; z = z })))
 takes_told t h (turn number i) e n = ap holding (corrects-told t h (C.turn number i))
 takes_told t h (question i) e n = refl
-takes_told t h (inner ring) e n = absurd (false≢true e)
 takes_told t h (across i j) e n = refl
 takes_told t h broken e n = refl
 

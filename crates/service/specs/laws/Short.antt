@@ -3,7 +3,7 @@ use Rattle.std.specs.Prelude.{ℕ, ◌*◌, ◌≤◌, List, [], ◌∷◌, leng
 use Rattle.std.proofs.Common.{arith, length-append}
 use Rattle.hex.specs.Hex.{digits}
 use Rattle.lines.specs.Lines.{lines, ended}
-use Rattle.frame.specs.Frame.{Frame, begin, point, polygon, end_of_load, move, turn, question, inner, across, broken, decode}
+use Rattle.frame.specs.Frame.{Frame, begin, point, polygon, end_of_load, move, turn, question, across, broken, decode}
 use Rattle.answer.specs.Answer.{plain, reported, told}
 use Rattle.hex.specs.laws.Back.{length_digits}
 use Rattle.service.specs.declared.Refusal.{Refusal}
@@ -37,7 +37,6 @@ length_answer end_of_load st = length-reported _ _ _ _ _
 length_answer (move number n x y z) st = length-reported _ _ _ _ _
 length_answer (turn number n) st = length-reported _ _ _ _ _
 length_answer (question n) st = length-told _ _ _ _
-length_answer (inner ring) st = length-plain 0
 length_answer (across m n) st = length-across _ _ _
 length_answer broken st = length-plain 0
 

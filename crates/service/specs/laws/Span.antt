@@ -6,7 +6,7 @@ use Rattle.std.proofs.lemmas.Bool.{false≢true}
 use mathlib.Core.List.{List, [], ◌∷◌, ◌++◌, map, append_assoc}
 use Rattle.std.proofs.Math.ListN.{get_or}
 use Rattle.whole.specs.Lists.{given, first}
-use Rattle.frame.specs.Frame.{Frame, begin, point, polygon, end_of_load, move, turn, question, inner, across, broken, decode}
+use Rattle.frame.specs.Frame.{Frame, begin, point, polygon, end_of_load, move, turn, question, across, broken, decode}
 use Rattle.frame.specs.Encode.{encode}
 use Rattle.answer.specs.Answer.{told}
 use Rattle.ring.specs.Polygon.{Polygon, one}
@@ -17,7 +17,7 @@ use Rattle.building.specs.Corrections.{Correction, stamp_of}
 use Rattle.building.specs.laws.History.{told-loaded, stamp_told, polygons-told}
 use Rattle.building.specs.laws.Loadable.{Loadable}
 use Rattle.service.specs.declared.Refusal.TheVariants.{Late}
-use Rattle.service.specs.Service.{State, nothing, holding, refusal, tables_of, building_of, takes, report_of, told_of, answer_to, Outcome, step, is_malformed, is_misplaced_of, is_holding_of, is_late, is_absent, is_beyond_of, is_full_of, is_taken, is_accepted_of, accepts}
+use Rattle.service.specs.Service.{State, nothing, holding, refusal, tables_of, building_of, takes, report_of, told_of, answer_to, Outcome, step, is_malformed, is_misplaced_of, is_holding_of, is_late, is_absent, is_beyond_of, is_full, is_taken, is_accepted_of, accepts}
 use Rattle.service.specs.Stream.{after}
 use Rattle.service.specs.Span.{is_begin, NoBegin, history, is_correction, loaded_by, Span, corrections_of, corrected_by, held, Numbered, a_move, a_turn, told_in, SameButStamp}
 use Rattle.service.specs.laws.Refusals.{accepted_keeps, accepted_line}
@@ -28,7 +28,7 @@ use Rattle.service.specs.Fresh.{load_lines, fresh_report, fresh_held}
 use Rattle.building.specs.Corrections as C
 
 module _ (before : List (List ℕ)) (end : List ℕ) (since : List (List ℕ)) (s : Span before end since) where
-  pub end_takes : (step (after nothing before) end).next ≡ holding (loaded (loaded_by before))
+  end_takes : (step (after nothing before) end).next ≡ holding (loaded (loaded_by before))
   unfolding takes loaded_by
   end_takes = accepted_keeps (after nothing before) end s.accepted ∙ ap (takes (after nothing before)) s.ends
 
@@ -71,7 +71,6 @@ not-begin end_of_load e = refl
 not-begin (move number n x y z) e = refl
 not-begin (turn number n) e = refl
 not-begin (question n) e = refl
-not-begin (inner ring) e = refl
 not-begin (across m n) e = refl
 not-begin broken e = refl
 
@@ -135,7 +134,7 @@ no_stamp (p ∷ ps) zero = refl
 no_stamp (p ∷ ps) (suc n) = no_stamp ps n
 
 question_passes : (b b' : Building) (n : ℕ) → b.tables ≡ b'.tables → Passed (holding b) (question n) → Passed (holding b') (question n)
-unfolding is_malformed is_misplaced_of is_holding_of is_late is_absent is_beyond_of is_full_of is_taken tables_of
+unfolding is_malformed is_misplaced_of is_holding_of is_late is_absent is_beyond_of is_full is_taken tables_of
 question_passes b b' n e p =
     record { formed = refl; placed = refl; timely = refl; known = ap (λ (t : Tables). leb (length t.polygons) n) (sym e) ∙ p.known; within = refl; room = refl; free = refl }
 

@@ -24,7 +24,7 @@ abbrev table : tie.Start → List Point
 table c = points_of c.args.points.now
 
 abbrev ring : tie.Start → List ℕ
-ring c = ring_at c.args.entries.now c.args.starts.now c.args.q
+ring c = ring_at c.args.entries.now c.args.starts.now c.args.p
 
 abbrev found : tie.Start → Finding
 found c = finding c.args.tolerance (table c) (ring c)

@@ -3,18 +3,18 @@ use mathlib.Core.Path.{refl, ◌∙◌}
 use native.Mathlib.Omega.{arith}
 use lib.ListN.{length-set}
 use Rattle.building.specs.held.Holds.{arrays, Shown}
-use Rattle.building.specs.laws.Rings.{stands_of}
-use Rattle.turns.specs.laws.Turned.{flipped, did_turned}
+use Rattle.building.specs.laws.Rings.{ring_of, rings-many}
+use Rattle.turns.specs.laws.Turned.{flipped, did_turned, found_now, part-now}
 use borrow.Author.Rules.{rules}
 use Rattle.turns.proofs.turn_polygon.Statement.{statement}
 use Rattle.turns.proofs.turn_polygon.Tie as tie
 
-turn-over-requires : tie.Need-turn-over-requires
-turn-over-requires c κs =
+turn-ring-requires : tie.Need-turn-ring-requires
+turn-ring-requires c κs =
     let s = c.before.before.before in
     let h = s.requires.0 in
     let p = s.args.n in
-    (h.loaded.coords, (stands_of h.loaded p s.requires.1, (h.loaded.tolerant, ((h.kept.found.size, h.kept.found.each p s.requires.1), (h.kept.summed.size, h.kept.summed.each p s.requires.1)))))
+    (h.loaded.coords, (ring_of h.loaded p (omega (arith, rings-many h.loaded, s.requires.1)), (h.loaded.tolerant, ((h.kept.found.size, h.kept.found.each p s.requires.1 ∙ found_now h.loaded p s.requires.1), ((h.kept.summed.size, h.kept.summed.each p s.requires.1 ∙ part-now h.loaded p s.requires.1), omega (arith, h.loaded.layout.few, s.requires.1))))))
 
 mul-stamps : tie.Need-overflow-mul-stamps
 mul-stamps c = search rules
@@ -42,7 +42,7 @@ returns : tie.Need-returns
 returns c =
     let s = c.before.before.before.before.before.before.before in
     let a = s.args in
-    let e = c.before.before.before.turn-over.ensures in
+    let e = c.before.before.before.turn-ring.ensures in
     let sh : Shown a.table.now a.s.edges (flipped a.turned.now a.n) a.s.fixed c.shape_now_lem.result = c.shape_now_lem.ensures in (
       did_turned (arrays a.points.now a.entries.now a.starts.now a.firsts.now a.stamps.now a.findings.now a.parts.now a.table.now a.turned.now) a.s s.requires.0 a.number a.n s.requires.1 e.0 refl e.1.0 e.1.1 refl sh,
       record { entries = e.0; stamps = refl; findings = e.1.0; parts = e.1.1; turned = refl; scalars = refl; shown = sh },
@@ -52,7 +52,7 @@ pub turn-polygon-spec : {M : Type 1} → statement M
 turn-polygon-spec =
     tie.close
     (tie.spec
-    turn-over-requires
+    turn-ring-requires
     mul-stamps
     element-write-stamps
     element-copy-out-turned

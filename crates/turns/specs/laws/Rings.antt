@@ -1,27 +1,29 @@
--- Rings turned in their places: each of them is reversed, and nothing that stands before or after them changes.
-use Prim.Native.Nat.{ℕ, zero, suc, ◌+◌, ◌-◌, ◌≤◌, ◌<◌}
-use Rattle.std.proofs.Math.Nat.{le_refl}
-use native.Mathlib.Omega.{arith}
-use Rattle.std.specs.Prelude.{◌≡◌, eqb, length, set}
-use Rattle.std.proofs.Math.Path.{refl, sym, ap, ap₂, subst}
-use Rattle.std.proofs.Common.{◌∙◌, eqb-true}
+-- One ring turned in its place.
+use Rattle.std.specs.Prelude.{ℕ, zero, suc, ◌+◌, ◌-◌, ◌≤◌, ◌<◌, ◌≡◌, refl, ltb, eqb, length, get_or, ℤ}
+use Rattle.std.proofs.Common.{arith, ◌∙◌, subst, ltb-true, ltb-false, eqb-true}
+use Rattle.std.proofs.Math.Path.{sym, ap}
 use mathlib.Core.List.{List, [], ◌∷◌, reverse, reverse_aux}
 use Rattle.std.proofs.lemmas.Bool.{eqb-false}
 use Rattle.std.proofs.Math.Arith.{lt_of_le-ne}
-use Rattle.std.proofs.Math.ListN.{get_or}
+use Rattle.std.proofs.Math.ListN.{set}
 use Rattle.std.proofs.lemmas.List.{length-reverse}
-use Rattle.std.proofs.Math.Seq.{sets, length-sets}
-use Rattle.whole.specs.laws.Spans.{span_same, map-span}
+use Rattle.std.proofs.lemmas.List.Edits.{sets}
+use Rattle.std.proofs.Math.Seq.{length-sets}
+use Rattle.whole.specs.Lists.{tab, at}
 use Rattle.whole.specs.laws.Stores.{cases, all_set}
 use Rattle.space.specs.held.Points.{Known}
-use Rattle.ring.specs.Polygon.{turned_over}
-use Rattle.ring.specs.held.Rings.{ring_at, polygon_of}
-use Rattle.holes.specs.held.Rings.{Ring, Rings, Lies}
-use Rattle.holes.specs.laws.Tables.{rings-from}
-use Rattle.inner.specs.laws.Tables.{ring_length, order}
-use Rattle.building.specs.held.Rings.{cut}
+use Rattle.ring.specs.Polygon.{Polygon, one, turned_over}
+use Rattle.ring.specs.held.Rings.{ring_at, polygon_at, polygons, Layout}
+use Rattle.ring.specs.laws.Turned.{polygon-one, turned-one}
+use Rattle.shell.specs.held.Held.{Entries}
+use Rattle.building.specs.declared.Scalars.{Scalars}
+use Rattle.whole.specs.laws.Places.{tab-at, tab-length}
 use Rattle.building.specs.laws.Lists.{cut-sets, cut-sets_past, cut-sets-before}
-use Rattle.turns.specs.held.Rings.{turned_rings, turned_entries}
+use Rattle.turns.specs.laws.Reversing.{tab-set}
+use Rattle.building.specs.held.Holds.{Loaded}
+use Rattle.holes.specs.held.Rings.{Ring}
+use Rattle.building.specs.laws.Rings.{ring_length, ring_below, ring_of, one_each, rings-many}
+use Rattle.turns.specs.held.Rings.{turned_entries}
 
 -- ---- what holds of every element, after stores and in reverse
 module _ {A : Type 0} (P : A → Type 0) (d : A) where
@@ -43,167 +45,109 @@ module _ {A : Type 0} (P : A → Type 0) (d : A) where
       never : (k : ℕ) → k < 0 → ⊥
       never k q = omega arith
 
--- ---- one ring
-module _ {entries starts : List ℕ} {q : ℕ} (r : Ring entries starts q) where
-  -- as many entries as it has
-  pub own-length : length (reverse (ring_at entries starts q)) ≡ get_or starts (q + 1) 0 - get_or starts q 0
-  own-length = length-reverse (ring_at entries starts q) ∙ ring_length q r
+-- changing number p of a list by f is a store of f of it
+pub at-is_set : {A : Type 0} (f : A → A) (l : List A) (p : ℕ) (d : A) → p < length l → at p f l ≡ set l p (f (get_or l p d))
+unfolding at
+at-is_set f [] p d h = absurd (omega arith)
+at-is_set f (x ∷ l) zero d h = refl
+at-is_set f (x ∷ l) (suc p) d h = ap (λ (m : List _). x ∷ m) (at-is_set f l p d (omega arith))
 
-  pub reversed_known : Known (reverse (ring_at entries starts q))
-  reversed_known =
+-- ---- one ring turned
+module _ {entries starts : List ℕ} {p : ℕ} (r : Ring entries starts p) where
+  own-length : length (reverse (ring_at entries starts p)) ≡ get_or starts (p + 1) 0 - get_or starts p 0
+  own-length = length-reverse (ring_at entries starts p) ∙ ring_length entries starts p r.entries-size r.inside
+
+  -- the ring itself is reversed
+  pub turned-own : ring_at (turned_entries entries starts p) starts p ≡ reverse (ring_at entries starts p)
+  turned-own =
+      cut-sets (get_or starts p 0) (get_or starts (p + 1) 0) entries (reverse (ring_at entries starts p)) r.forward (omega (arith, r.inside, r.entries-size)) own-length
+
+  pub turned_known : Known (reverse (ring_at entries starts p))
+  turned_known =
       record {
-        few = rw (length-reverse (ring_at entries starts q)) r.known.few;
-        each = all-reverse (λ (e : ℕ). e < 512) 0 (ring_at entries starts q) r.known.each;
+        few = rw (length-reverse (ring_at entries starts p)) r.known.few;
+        each = all-reverse (λ (e : ℕ). e < 512) 0 (ring_at entries starts p) r.known.each;
       }
 
-  -- stored in its place, in a table of the same length
-  pub stored_own : (l : List ℕ) → length l ≡ 1024 → ring_at (sets l (get_or starts q 0) (reverse (ring_at entries starts q))) starts q ≡ reverse (ring_at entries starts q)
-  stored_own l e = cut-sets (get_or starts q 0) (get_or starts (q + 1) 0) l (reverse (ring_at entries starts q)) r.forward (omega (arith, r.inside)) own-length
+-- ---- of all rings
+module _ {points : List ℤ} {entries starts firsts : List ℕ} {s : Scalars} (ld : Loaded points entries starts firsts s) (p : ℕ) (h : p < s.polygons) where
+  abbrev turned_ones : List ℕ
+  turned_ones = turned_entries entries starts p
 
--- ---- several rings
-pub turned-length : (entries starts : List ℕ) (from n : ℕ) → length (turned_rings entries starts from n) ≡ length entries
-unfolding turned_rings
-turned-length entries starts from zero = refl
-turned-length entries starts from (suc n) = length-sets (turned_rings entries starts from n) (get_or starts (from + n) 0) (reverse (ring_at entries starts (from + n))) ∙ turned-length entries starts from n
+  few : (q : ℕ) → q < s.polygons → q < get_or firsts s.polygons 0
+  few q g = omega (arith, rings-many ld)
 
-pub turned-all : (P : ℕ → Type 0) (entries starts : List ℕ) (from n m : ℕ) → ((i : ℕ) → i < m → P (get_or entries i 0)) → ((r : ℕ) → from ≤ r → r < from + n → (i : ℕ) → i < length (ring_at entries starts r) → P (get_or (ring_at entries starts r) i 0))
-    → (i : ℕ) → i < m → P (get_or (turned_rings entries starts from n) i 0)
-unfolding turned_rings
-turned-all P entries starts from zero m h g = h
-turned-all P entries starts from (suc n) m h g =
-    all-sets P 0 (turned_rings entries starts from n) (reverse (ring_at entries starts (from + n))) m (get_or starts (from + n) 0)
-    (turned-all P entries starts from n m h (λ r a b. g r a (omega arith)))
-    (all-reverse P 0 (ring_at entries starts (from + n)) (g (from + n) (omega arith) (omega arith)))
+  -- no other changes
+  pub turned_other : (q : ℕ) → q < s.polygons → (q ≡ p → ⊥) → ring_at turned_ones starts q ≡ ring_at entries starts q
+  turned_other q g ne =
+      let m : get_or firsts s.polygons 0 ≡ s.polygons = rings-many ld in
+      let st = ld.layout in
+      let r : get_or starts p 0 ≤ get_or starts (p + 1) 0 = st.ordered p (p + 1) (omega arith) (omega arith) in
+      let l : length (reverse (ring_at entries starts p)) ≡ get_or starts (p + 1) 0 - get_or starts p 0 = own-length (ring_of ld p (few p h)) in
+      cases (ltb q p)
+      (λ t. cut-sets_past (get_or starts q 0) (get_or starts (q + 1) 0) (get_or starts p 0) entries (reverse (ring_at entries starts p))
+      (st.ordered q (q + 1) (omega arith) (omega arith))
+      (st.ordered (q + 1) p (omega (arith, ltb-true q p t)) (omega arith)))
+      (λ t. cut-sets-before (get_or starts q 0) (get_or starts (q + 1) 0) (get_or starts p 0) entries (reverse (ring_at entries starts p))
+      (let z : p < q = lt_of_le-ne (ltb-false q p t) (λ e. ne (sym e)) in omega (arith, st.ordered (p + 1) q (omega arith) (omega arith))))
 
-module _ {entries starts : List ℕ} {from to : ℕ} (h : Rings entries starts from to) where
-  abbrev so : ℕ → List ℕ
-  so n = turned_rings entries starts from n
+  -- what a ring tells that is the same turned, every ring tells after the turn
+  pub turned_same : {A : Type 0} (f : List ℕ → A) → ((r : List ℕ) → f (reverse r) ≡ f r) → (q : ℕ) → q < s.polygons → f (ring_at turned_ones starts q) ≡ f (ring_at entries starts q)
+  turned_same f e q g =
+      cases (eqb q p)
+      (λ t. subst (λ (k : ℕ). f (ring_at turned_ones starts k) ≡ f (ring_at entries starts k)) (sym (eqb-true q p t)) (ap f (turned-own (ring_of ld p (few p h))) ∙ e (ring_at entries starts p)))
+      (λ t. ap f (turned_other q g (eqb-false q p t)))
 
-  sorted : (r s : ℕ) → from ≤ r → r ≤ s → s ≤ to → get_or starts r 0 ≤ get_or starts s 0
-  sorted r s a b c = order (rings-from h r a) s b c
+  -- the polygons, each of one ring
+  now-one : (q : ℕ) → q < s.polygons → polygon_at turned_ones starts firsts q ≡ one (ring_at turned_ones starts q)
+  now-one q g = polygon-one turned_ones starts firsts q (ld.ones q (omega arith)) (ld.ones (q + 1) (omega arith))
 
-  -- what stands before them
-  pub before_them : (n a e : ℕ) → from + n ≤ to → a ≤ e → e ≤ get_or starts from 0 → cut a e (so n) ≡ cut a e entries
-  unfolding turned_rings
-  before_them zero a e w g k = refl
-  before_them (suc n) a e w g k =
-      cut-sets_past a e (get_or starts (from + n) 0) (so n) (reverse (ring_at entries starts (from + n))) g (omega (arith, sorted from (from + n) (le_refl from) (omega arith) (omega arith)))
-      ∙ before_them n a e (omega arith) g k
+  pub polygon-own : polygon_at turned_ones starts firsts p ≡ turned_over (polygon_at entries starts firsts p)
+  polygon-own = now-one p h ∙ (ap one (turned-own (ring_of ld p (few p h))) ∙ (sym (turned-one (ring_at entries starts p)) ∙ ap turned_over (sym (one_each ld p h))))
 
-  -- and after them
-  pub after_them : (n a e : ℕ) → from + n ≤ to → get_or starts (from + n) 0 ≤ a → cut a e (so n) ≡ cut a e entries
-  unfolding turned_rings
-  after_them zero a e w k = refl
-  after_them (suc n) a e w k =
-      let z : from + suc n ≡ from + n + 1 = omega arith in
-      let r = h.each (from + n) (omega arith) (omega arith) in
-      let l : get_or starts (from + n + 1) 0 ≤ a = subst (λ (q : ℕ). get_or starts q 0 ≤ a) z k in
-      cut-sets-before a e (get_or starts (from + n) 0) (so n) (reverse (ring_at entries starts (from + n))) (omega (arith, own-length r, r.forward))
-      ∙ after_them n a e (omega arith) (omega (arith, r.forward))
+  pub polygon_other : (q : ℕ) → q < s.polygons → (q ≡ p → ⊥) → polygon_at turned_ones starts firsts q ≡ polygon_at entries starts firsts q
+  polygon_other q g ne = now-one q g ∙ (ap one (turned_other q g ne) ∙ sym (one_each ld q g))
 
-  -- and each of them
-  turned_so : (n q : ℕ) → from + n ≤ to → from ≤ q → q < from + n → ring_at (so n) starts q ≡ reverse (ring_at entries starts q)
-  unfolding turned_rings
-  turned_so zero q w a b = absurd (omega arith)
-  turned_so (suc n) q w a b =
-      cases (eqb q (from + n))
-      (λ t. subst (λ (k : ℕ). ring_at (sets (so n) (get_or starts k 0) (reverse (ring_at entries starts k))) starts q ≡ reverse (ring_at entries starts q)) (eqb-true q (from + n) t)
-      (let r = h.each q a (omega arith) in stored_own r (so n) (turned-length entries starts from n ∙ r.entries-size)))
-      (λ t. let c : q < from + n = lt_of_le-ne (omega arith) (eqb-false q (from + n) t) in
-      cut-sets_past (get_or starts q 0) (get_or starts (q + 1) 0) (get_or starts (from + n) 0) (so n) (reverse (ring_at entries starts (from + n)))
-      (h.each q a (omega arith)).forward (sorted (q + 1) (from + n) (omega arith) (omega arith) (omega arith))
-      ∙ turned_so n q (omega arith) a c)
+  pub turned_polygons_lem : polygons turned_ones starts firsts s.polygons ≡ at p turned_over (polygons entries starts firsts s.polygons)
+  unfolding polygons
+  turned_polygons_lem =
+      tab-set (polygon_at entries starts firsts) (polygon_at turned_ones starts firsts) s.polygons p h polygon_other
+      ∙ ap (λ (q : Polygon). set (tab (polygon_at entries starts firsts) s.polygons) p q) (polygon-own ∙ ap turned_over (sym (tab-at (polygon_at entries starts firsts) s.polygons p (one []) h)))
+      ∙ sym (at-is_set turned_over (tab (polygon_at entries starts firsts) s.polygons) p (one []) (rw tab-length h))
 
-  pub turned-own : (q : ℕ) → from ≤ q → q < to → ring_at (turned_entries entries starts from to) starts q ≡ reverse (ring_at entries starts q)
-  turned-own q a b = turned_so (to - from) q (omega arith) a (omega arith)
+  turned-size : length turned_ones ≡ 1024
+  turned-size = length-sets entries (get_or starts p 0) (reverse (ring_at entries starts p)) ∙ ld.entered.size
 
-  -- they lie in the table as before
-  pub turned_rings_lem : Rings (turned_entries entries starts from to) starts from to
-  turned_rings_lem =
+  pub turned_entered : Entries turned_ones (get_or starts (get_or firsts s.polygons 0) 0) s.points
+  turned_entered =
       record {
-        few = h.few;
-        each = λ q a b.
-            let r = h.each q a b in
-            record {
-              entries-size = turned-length entries starts from (to - from) ∙ r.entries-size;
-              starts_size = r.starts_size;
-              few = r.few;
-              forward = r.forward;
-              inside = r.inside;
-              known = subst Known (sym (turned-own q a b)) (reversed_known r);
-            };
+        size = turned-size;
+        few = ld.entered.few;
+        below = all-sets (λ (e : ℕ). e < s.points) 0 entries (reverse (ring_at entries starts p)) (get_or starts (get_or firsts s.polygons 0) 0) (get_or starts p 0) ld.entered.below
+            (all-reverse (λ (e : ℕ). e < s.points) 0 (ring_at entries starts p) (ring_below ld p (few p h)));
       }
 
--- ---- the polygon of them, whose entries stand turned already
-module _ {entries starts : List ℕ} {from to : ℕ} (l : Lies entries starts from to) {entries' : List ℕ} (e : entries' ≡ turned_entries entries starts from to) where
-  pub turned_lies : Lies entries' starts from to
-  turned_lies = subst (λ (es : List ℕ). Lies es starts from to) (sym e) (record { some = l.some; rings = turned_rings_lem l.rings })
+  turned_layout : Layout turned_ones starts firsts s.polygons
+  turned_layout = record {
+    entries-size = turned-size;
+    starts_size = ld.layout.starts_size;
+    firsts_size = ld.layout.firsts_size;
+    few = ld.layout.few;
+    begin = ld.layout.begin;
+    rising = ld.layout.rising;
+    many = ld.layout.many;
+    ordered = ld.layout.ordered;
+    inside = ld.layout.inside;
+  }
 
-  pub polygon-own : polygon_of entries' starts from to ≡ turned_over (polygon_of entries starts from to)
-  unfolding turned_over
-  polygon-own =
-      let n = to - from - 1 in
-      let f = ring_at entries starts in
-      let g = ring_at (turned_entries entries starts from to) starts in
-      let some = l.some in
-      ap (λ (es : List ℕ). polygon_of es starts from to) e
-      ∙ ap₂ (λ (o : List ℕ) (i : List (List ℕ)). record { outer = o; inner = i })
-      (turned-own l.rings from (le_refl from) some)
-      (span_same g (λ q. reverse (f q)) (from + 1) n (λ q a b. turned-own l.rings q (omega arith) (omega arith)) ∙ sym (map-span reverse f (from + 1) n))
-
--- ---- where there is one ring
-pub turned-one_ring : (entries starts : List ℕ) (from to : ℕ) → to ≡ from + 1 → turned_entries entries starts from to ≡ sets entries (get_or starts from 0) (reverse (ring_at entries starts from))
-unfolding turned_rings
-turned-one_ring entries starts from to e =
-    let one : to - from ≡ 1 = omega arith in
-    let z : from + 0 ≡ from = omega arith in
-    ap (turned_rings entries starts from) one ∙ ap (λ (q : ℕ). sets entries (get_or starts q 0) (reverse (ring_at entries starts q))) z
-
--- ---- the loop that turns them: those before ring q are turned
-pub record Turning (entries starts : List ℕ) (from to : ℕ) (l : List ℕ) (q : ℕ) : Type 0 where
-  pub low : from ≤ q
-  pub high : q ≤ to
-  pub done : l ≡ turned_rings entries starts from (q - from)
-
-module _ {entries starts : List ℕ} {from to : ℕ} where
-  pub turning_none : from ≤ to → Turning entries starts from to entries from
-  unfolding turned_rings
-  turning_none w = let z : from - from ≡ 0 = omega arith in record { low = le_refl from; high = w; done = ap (turned_rings entries starts from) (sym z) }
-
-  module _ (h : Rings entries starts from to) {l : List ℕ} {q : ℕ} (t : Turning entries starts from to l q) where
-    pub turning-done : to ≤ q → l ≡ turned_entries entries starts from to
-    turning-done g = let e : q - from ≡ to - from = omega (arith, t.high) in t.done ∙ ap (turned_rings entries starts from) e
-
-    module _ (g : q < to) where
-      -- ring q stands as it did
-      pub turning-still : ring_at l starts q ≡ ring_at entries starts q
-      turning-still =
-          let e : from + (q - from) ≡ q = omega (arith, t.low) in
-          ap (λ (m : List ℕ). ring_at m starts q) t.done
-          ∙ after_them h (q - from) (get_or starts q 0) (get_or starts (q + 1) 0) (omega (arith, t.low)) (subst (λ (k : ℕ). get_or starts k 0 ≤ get_or starts q 0) (sym e) (le_refl (get_or starts q 0)))
-
-      pub turning-ring : Ring l starts q
-      turning-ring =
-          let r = h.each q t.low g in
-          record {
-            entries-size = ap length t.done ∙ turned-length entries starts from (q - from) ∙ r.entries-size;
-            starts_size = r.starts_size;
-            few = r.few;
-            forward = r.forward;
-            inside = r.inside;
-            known = subst Known (sym turning-still) r.known;
-          }
-
-      pub turning-more : {l' : List ℕ} → l' ≡ sets l (get_or starts q 0) (reverse (ring_at l starts q)) → Turning entries starts from to l' (q + 1)
-      unfolding turned_rings
-      turning-more e =
-          let a : from + (q - from) ≡ q = omega (arith, t.low) in
-          let b : suc (q - from) ≡ q + 1 - from = omega (arith, t.low) in
-          record {
-            low = omega (arith, t.low);
-            high = omega arith;
-            done = e
-                ∙ ap₂ (λ (m vs : List ℕ). sets m (get_or starts q 0) (reverse vs)) t.done turning-still
-                ∙ ap (λ (k : ℕ). sets (turned_rings entries starts from (q - from)) (get_or starts k 0) (reverse (ring_at entries starts k))) (sym a)
-                ∙ ap (turned_rings entries starts from) b;
-          }
+  pub turned-loaded : Loaded points turned_ones starts firsts s
+  turned-loaded =
+      record {
+        coords = ld.coords;
+        first = ld.first;
+        layout = turned_layout;
+        ones = ld.ones;
+        entered = turned_entered;
+        tolerant = ld.tolerant;
+        short = λ q g. rw (turned_same length (λ r. length-reverse r) q (omega (arith, rings-many ld))) (ld.short q g);
+      }

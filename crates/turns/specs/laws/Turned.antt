@@ -1,12 +1,11 @@
--- A turn: what is kept after it is what the definitions give for the polygon turned over.
+-- A turn: what is kept after it is what the definitions give for the turned ring.
 use Rattle.std.specs.Prelude.{ℕ, zero, suc, ◌+◌, ◌*◌, ◌-◌, ◌%◌, ◌<◌, ◌≡◌, refl, true, false, List, reverse, eqb, set, ℤ, pos, negsuc, neg_ℤ, ◌-ℤ◌}
-use Rattle.std.proofs.Common.{arith, sym, ap, ◌∙◌, subst, eqb-true, get_or-set_same, get_or-set_other, SFits, of_z, to_z, to_z-of_z}
-use Rattle.std.proofs.Math.Path.{ap₂}
+use Rattle.std.proofs.Common.{arith, sym, ◌∙◌, subst, eqb-true, get_or-set_same, get_or-set_other, SFits, of_z, to_z, to_z-of_z}
+use Rattle.std.proofs.Math.Path.{ap, ap₂}
 use Rattle.std.proofs.lemmas.List.{reverse-reverse}
 use Rattle.std.proofs.Math.Logic.{inl, inr, ⊎_elim}
 use Rattle.std.proofs.lemmas.Bool.{eqb-false}
 use Rattle.std.proofs.Math.ListN.{length, get_or, length-set}
-use Rattle.std.proofs.lemmas.List.Edits.{sets}
 use Rattle.std.proofs.Math.Seq.{take-set-lt, length-sets}
 use Rattle.std.proofs.Math.IntN.{+ℤ_idl}
 use Rattle.std.specs.Int.{w64}
@@ -32,13 +31,13 @@ use Rattle.holes.specs.held.Rings.{Ring}
 use Rattle.shell.specs.laws.EdgedLaws.{listed-turned, edged_turned}
 use Rattle.building.specs.declared.Scalars.{Scalars}
 use Rattle.building.specs.Tables.{turned}
-use Rattle.building.specs.held.Holds.{is_unmendable_of, Arrays, arrays, held_tables, held_building, Loaded, Found, Summed, Broken, Shown, Held, Did}
+use Rattle.building.specs.held.Holds.{is_broken, Arrays, arrays, held_tables, held_building, Loaded, Found, Summed, Broken, Shown, Held, Did}
 use Rattle.polygon.specs.held.Findings.{kept_finding, is_placed}
-use Rattle.building.specs.laws.Findings.{kept_number}
-use Rattle.building.specs.laws.Unmended.{unmendable-turned}
+use Rattle.building.specs.laws.Findings.{broken_turned, kept_number}
 use Rattle.polygon.specs.laws.Position.{placed_is}
-use Rattle.turns.specs.laws.Rings.{reversed_known, stored_own}
-use Rattle.turns.specs.laws.Polygons.{turned_at, own-over, other_same, turned_polygons_lem, turned-loaded}
+use Rattle.building.specs.laws.Rings.{one_each}
+use Rattle.turns.specs.held.Rings.{turned_entries}
+use Rattle.turns.specs.laws.Rings.{turned-own, turned_known, polygon-own, polygon_other, turned_polygons_lem, turned-loaded}
 
 -- ---- the part of a turned ring, from what it was
 neg_neg : (z : ℤ) → neg_ℤ (neg_ℤ z) ≡ z
@@ -65,22 +64,25 @@ module _ {points : List ℤ} {ring : List ℕ} (co : Coords points) (kn : Known 
     negated-is f = to_z-of_z (negated_fits f) ∙ negated f
 
 -- what the turned ring asks, whose entries stand turned already
-module _ {entries starts : List ℕ} {q : ℕ} (r : Ring entries starts q) {entries' : List ℕ} (e : entries' ≡ sets entries (get_or starts q 0) (reverse (ring_at entries starts q))) where
-  pub own-turned : ring_at entries' starts q ≡ reverse (ring_at entries starts q)
-  own-turned = ap (λ (es : List ℕ). ring_at es starts q) e ∙ stored_own r entries r.entries-size
+module _ {entries starts : List ℕ} {p : ℕ} (r : Ring entries starts p) {entries' : List ℕ} (e : entries' ≡ turned_entries entries starts p) where
+  pub own-turned : ring_at entries' starts p ≡ reverse (ring_at entries starts p)
+  own-turned = ap (λ (es : List ℕ). ring_at es starts p) e ∙ turned-own r
 
-  pub own_back : ring_at entries starts q ≡ reverse (ring_at entries' starts q)
-  own_back = sym (reverse-reverse (ring_at entries starts q)) ∙ ap reverse (sym own-turned)
+  pub own_known : Known (ring_at entries' starts p)
+  own_known = subst Known (sym own-turned) (turned_known r)
 
-  pub own_ring : Ring entries' starts q
+  pub own_back : ring_at entries starts p ≡ reverse (ring_at entries' starts p)
+  own_back = sym (reverse-reverse (ring_at entries starts p)) ∙ ap reverse (sym own-turned)
+
+  pub own_ring : Ring entries' starts p
   own_ring =
       record {
-        entries-size = ap length e ∙ length-sets entries (get_or starts q 0) (reverse (ring_at entries starts q)) ∙ r.entries-size;
+        entries-size = ap length e ∙ length-sets entries (get_or starts p 0) (reverse (ring_at entries starts p)) ∙ r.entries-size;
         starts_size = r.starts_size;
         few = r.few;
         forward = r.forward;
         inside = r.inside;
-        known = subst Known (sym own-turned) (reversed_known r);
+        known = own_known;
       }
 
 -- ---- the finding of a ring that has been turned, from what it was
@@ -105,62 +107,68 @@ module _ (tolerance : ℕ) (points : List Point) (ring : List ℕ) {k : ℕ} (e 
 abbrev pub flipped : List ℕ → ℕ → List ℕ
 flipped turned p = set turned p (1 - get_or turned p 0)
 
--- ---- a polygon of one ring: what it tells is what the ring tells, turned or not
-module _ (points : List Point) {polygon : Polygon} (ring : List ℕ) (e : polygon ≡ one ring) where
-  pub found_one : (tolerance : ℕ) → kept_finding (Inner.finding tolerance points polygon) ≡ kept_finding (finding tolerance points ring)
-  found_one tolerance = ap kept_finding (ap (Inner.finding tolerance points) e ∙ one_ring points ring tolerance)
-
-  pub part_of-one : Inner.part points polygon ≡ part points ring
-  part_of-one = ap (Inner.part points) e ∙ one-part points ring
-
-pub over-one : {polygon : Polygon} (ring : List ℕ) → polygon ≡ one ring → turned_over polygon ≡ one (reverse ring)
-over-one ring e = ap turned_over e ∙ turned-one ring
-
 -- ---- all that is kept
 module _ {points : List ℤ} {entries starts firsts : List ℕ} {s : Scalars} (ld : Loaded points entries starts firsts s) (p : ℕ) (h : p < s.polygons) where
   -- what a polygon tells, stored anew for the turned one, is told of every polygon
-  turned_each : {A : Type 0} (f : Polygon → A) (l : List A) (d : A) → length l ≡ 256 → ((q : ℕ) → q < s.polygons → get_or l q d ≡ f (polygon_at entries starts firsts q))
-      → (q : ℕ) → q < s.polygons → get_or (set l p (f (turned_over (polygon_at entries starts firsts p)))) q d ≡ f (polygon_at (turned_at entries starts firsts p) starts firsts q)
-  turned_each f l d size each q g =
-      let z = f (turned_over (polygon_at entries starts firsts p)) in
+  turned_each : {A : Type 0} (f : Polygon → A) (l : List A) (d : A) (z : A) → z ≡ f (turned_over (polygon_at entries starts firsts p)) → length l ≡ 256 → ((q : ℕ) → q < s.polygons → get_or l q d ≡ f (polygon_at entries starts firsts q))
+      → (q : ℕ) → q < s.polygons → get_or (set l p z) q d ≡ f (polygon_at (turned_entries entries starts p) starts firsts q)
+  turned_each f l d z e size each q g =
       cases (eqb q p)
-      (λ t. rw (eqb-true q p t) (get_or-set_same l p z d (omega (arith, ld.layout.few)) ∙ ap f (sym (own-over ld p h))))
-      (λ t. get_or-set_other l p q z d (eqb-false q p t) ∙ each q g ∙ ap f (sym (other_same ld p h q g (eqb-false q p t))))
+      (λ t. rw (eqb-true q p t) (get_or-set_same l p z d (omega (arith, ld.layout.few)) ∙ (e ∙ ap f (sym (polygon-own ld p h)))))
+      (λ t. get_or-set_other l p q z d (eqb-false q p t) ∙ each q g ∙ ap f (sym (polygon_other ld p h q g (eqb-false q p t))))
+
+  -- what the one ring tells
+  pub found_now : kept_finding (Inner.finding s.tolerance (points_of points) (polygon_at entries starts firsts p)) ≡ kept_finding (finding s.tolerance (points_of points) (ring_at entries starts p))
+  found_now = ap kept_finding (ap (Inner.finding s.tolerance (points_of points)) (one_each ld p h) ∙ one_ring (points_of points) (ring_at entries starts p) s.tolerance)
+
+  pub part-now : Inner.part (points_of points) (polygon_at entries starts firsts p) ≡ part (points_of points) (ring_at entries starts p)
+  part-now = ap (Inner.part (points_of points)) (one_each ld p h) ∙ one-part (points_of points) (ring_at entries starts p)
+
+  own-turned-one : turned_over (polygon_at entries starts firsts p) ≡ one (reverse (ring_at entries starts p))
+  own-turned-one = ap turned_over (one_each ld p h) ∙ turned-one (ring_at entries starts p)
+
+  found_one : kept_finding (finding s.tolerance (points_of points) (reverse (ring_at entries starts p))) ≡ kept_finding (Inner.finding s.tolerance (points_of points) (turned_over (polygon_at entries starts firsts p)))
+  found_one = ap kept_finding (sym (ap (Inner.finding s.tolerance (points_of points)) own-turned-one ∙ one_ring (points_of points) (reverse (ring_at entries starts p)) s.tolerance))
+
+  part-one : part (points_of points) (reverse (ring_at entries starts p)) ≡ Inner.part (points_of points) (turned_over (polygon_at entries starts firsts p))
+  part-one = sym (ap (Inner.part (points_of points)) own-turned-one ∙ one-part (points_of points) (reverse (ring_at entries starts p)))
 
   turned_found : {findings : List ℕ} → Found points entries starts firsts findings s
-      → Found points (turned_at entries starts firsts p) starts firsts (set findings p (kept_finding (Inner.finding s.tolerance (points_of points) (turned_over (polygon_at entries starts firsts p))))) s
+      → Found points (turned_entries entries starts p) starts firsts (set findings p (kept_finding (finding s.tolerance (points_of points) (reverse (ring_at entries starts p))))) s
   turned_found {findings} f =
+      let z = kept_finding (finding s.tolerance (points_of points) (reverse (ring_at entries starts p))) in
       record {
-        size = length-set findings p _ ∙ f.size;
-        each = turned_each (λ q. kept_finding (Inner.finding s.tolerance (points_of points) q)) findings 0 f.size f.each;
+        size = length-set findings p z ∙ f.size;
+        each = turned_each (λ q. kept_finding (Inner.finding s.tolerance (points_of points) q)) findings 0 z found_one f.size f.each;
       }
 
-  turned_summed : {parts : List ℤ} → Summed points entries starts firsts parts s
-      → Summed points (turned_at entries starts firsts p) starts firsts (set parts p (Inner.part (points_of points) (turned_over (polygon_at entries starts firsts p)))) s
+  turned_summed : {parts : List ℤ} → Summed points entries starts firsts parts s → Summed points (turned_entries entries starts p) starts firsts (set parts p (part (points_of points) (reverse (ring_at entries starts p)))) s
   turned_summed {parts} f =
+      let z = part (points_of points) (reverse (ring_at entries starts p)) in
       record {
-        size = length-set parts p _ ∙ f.size;
-        each = turned_each (Inner.part (points_of points)) parts (pos 0) f.size f.each;
+        size = length-set parts p z ∙ f.size;
+        each = turned_each (Inner.part (points_of points)) parts (pos 0) z part-one f.size f.each;
       }
 
-  turned_broken : Broken entries starts firsts s.polygons → Broken (turned_at entries starts firsts p) starts firsts s.polygons
+  turned_broken : Broken entries starts firsts s.polygons → Broken (turned_entries entries starts p) starts firsts s.polygons
+  unfolding turned_over
   turned_broken b =
       let q = b.polygon in
       record {
         polygon = q;
         below = b.below;
         broken = cases (eqb q p)
-            (λ t. rw (eqb-true q p t) (ap is_unmendable_of (own-over ld p h) ∙ unmendable-turned (polygon_at entries starts firsts p) ∙ subst (λ (k : ℕ). is_unmendable_of (polygon_at entries starts firsts k) ≡ true) (eqb-true q p t) b.broken))
-            (λ t. ap is_unmendable_of (other_same ld p h q b.below (eqb-false q p t)) ∙ b.broken);
+            (λ t. rw (eqb-true q p t) (ap (λ (r : Polygon). is_broken r.outer) (polygon-own ld p h) ∙ broken_turned (polygon_at entries starts firsts p).outer (subst (λ (k : ℕ). is_broken (polygon_at entries starts firsts k).outer ≡ true) (eqb-true q p t) b.broken)))
+            (λ t. ap (λ (r : Polygon). is_broken r.outer) (polygon_other ld p h q b.below (eqb-false q p t)) ∙ b.broken);
       }
 
 module _ (a : Arrays) (s : Scalars) (hd : Held a s) (number p : ℕ) (h : p < s.polygons) where
-  -- the turned rings, their polygon's finding, part, stamp and flag make the building that a turn makes
+  -- the turned ring, its finding, its part, its stamp and its flag make the building that a turn makes
   pub did_turned : {entries' stamps' findings' : List ℕ} {parts' : List ℤ} {turned' : List ℕ}
-      → entries' ≡ turned_at a.entries a.starts a.firsts p
+      → entries' ≡ turned_entries a.entries a.starts p
       → stamps' ≡ set a.stamps p number
-      → findings' ≡ set a.findings p (kept_finding (Inner.finding s.tolerance (points_of a.points) (turned_over (polygon_at a.entries a.starts a.firsts p))))
-      → parts' ≡ set a.parts p (Inner.part (points_of a.points) (turned_over (polygon_at a.entries a.starts a.firsts p)))
+      → findings' ≡ set a.findings p (kept_finding (finding s.tolerance (points_of a.points) (reverse (ring_at a.entries a.starts p))))
+      → parts' ≡ set a.parts p (part (points_of a.points) (reverse (ring_at a.entries a.starts p)))
       → turned' ≡ flipped a.turned p
       → {shape' : Shape} → Shown a.table s.edges turned' s.fixed shape'
       → Did (turned number p (held_building a s)) (arrays a.points entries' a.starts a.firsts stamps' findings' parts' a.table turned') (record { tolerance = s.tolerance; points = s.points; polygons = s.polygons; last = number; edges = s.edges; fixed = s.fixed; shape = shape' })
@@ -175,7 +183,7 @@ module _ (a : Arrays) (s : Scalars) (hd : Held a s) (number p : ℕ) (h : p < s.
       rw (e₁, e₂, e₅, e₃, e₄)
       (record {
         held = record {
-          loaded = record { coords = lt.coords; first = lt.first; layout = lt.layout; entered = lt.entered; tolerant = lt.tolerant; short = lt.short };
+          loaded = record { coords = lt.coords; first = lt.first; layout = lt.layout; ones = lt.ones; entered = lt.entered; tolerant = lt.tolerant; short = lt.short };
           stamped = length-set a.stamps p number ∙ hd.stamped;
           kept = record {
             found = record { size = (turned_found ld p h kp.found).size; each = (turned_found ld p h kp.found).each };

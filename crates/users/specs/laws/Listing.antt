@@ -117,9 +117,9 @@ some_use e ps i = in_tally (eqb e) e (all edges_of (all_rings ps)) i (eq-eqb e e
 
 -- ---- looking an edge up
 
-numbered-so : (ps : List Polygon) (x : ℕ) → (listed x (users_at x ps)).number ≡ x
+numbered_so : (ps : List Polygon) (x : ℕ) → (listed x (users_at x ps)).number ≡ x
 unfolding listed
-numbered-so ps x = refl
+numbered_so ps x = refl
 
 module _ (f : ℕ → Listed) (numbered : (x : ℕ) → (f x).number ≡ x) (e : ℕ) (d : Listed) where
   found : (l : List ℕ) → In e l → first d (map (λ x. given (eqb e x.number) x) (map f l)) ≡ f e
@@ -151,13 +151,13 @@ told_users e ps is = go (uses (all_rings ps) e) refl
   where
     go : (n : ℕ) → uses (all_rings ps) e ≡ n → looked_up e (edge_list ps) ≡ listed e (users_at e ps)
     go zero q =
-        missing (λ x. listed x (users_at x ps)) (numbered-so ps) e (listed e []) (edges_once ps) (λ i. unused (some_use e ps (has_list e ps i).0))
+        missing (λ x. listed x (users_at x ps)) (numbered_so ps) e (listed e []) (edges_once ps) (λ i. unused (some_use e ps (has_list e ps i).0))
         ∙ ap (listed e) (sym (empty (users_at e ps) (users_uses e ps ∙ q)))
       where
         unused : 1 ≤ uses (all_rings ps) e → ⊥
         unused h = omega arith
     go (suc n) q =
-        found (λ x. listed x (users_at x ps)) (numbered-so ps) e (listed e []) (edges_once ps) (list_has e ps (used (all_rings ps) e (omega arith)) is)
+        found (λ x. listed x (users_at x ps)) (numbered_so ps) e (listed e []) (edges_once ps) (list_has e ps (used (all_rings ps) e (omega arith)) is)
 
 -- "Frame 0C asks for two point numbers in either order and answers .. users .., first user .., second user"
 pub across_is : (a b : ℕ) (ps : List Polygon) → a < 65536 → b < 65536 → (a ≡ b → ⊥) → across a b ps ≡ listed (edge a b) (users_at (edge a b) ps)

@@ -1,2 +1,0 @@
-pub mod held
-pub mod laws

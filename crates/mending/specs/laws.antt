@@ -1,4 +1,0 @@
--- What is proved of the definitions.
-pub mod Again
-pub mod Agree
-pub mod Passes
