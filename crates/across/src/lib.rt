@@ -1,4 +1,7 @@
 // Frame 0C, who is across an edge: why it is refused, and what it is answered.
+
+#![tactic(auto)]
+
 ghost use Rattle.std.specs.Prelude.{◌≡◌, ◌+◌, ◌≤◌, length};
 ghost use Rattle.frame.specs.Frame as F;
 ghost use Rattle.building.specs.held.Holds.{Arrays};

@@ -1,6 +1,6 @@
 -- What comes back for a line, as digits.
 use Rattle.std.specs.Prelude.{ℕ, List, ◌++◌, ℤ}
-use Rattle.hex.specs.Hex.{digits, bits64}
+use Rattle.hexadecimal.specs.Hex.{digits, bits64}
 
 -- "01, 02, 03 accepted: `00`." "Refused: the two digits"
 unfoldable pub plain : ℕ → List ℕ

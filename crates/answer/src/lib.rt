@@ -1,8 +1,10 @@
 // Answers out: the digits of what comes back for a line, written into lent room.
 
+#![tactic(auto)]
+
 ghost use Rattle.std.specs.Prelude.{◌+◌, ◌<◌, ◌≤◌, ◌≡◌, length};
 ghost use Rattle.std.proofs.lemmas.List.Edits.{sets};
-ghost use Rattle.hex.specs.Hex.{digit, digits, bits64};
+ghost use Rattle.hexadecimal.specs.Hex.{digit, digits, bits64};
 ghost use Rattle.lines.specs.Lines.{ended};
 ghost use Rattle.answer.specs.Answer.{plain, reported, told, across};
 ghost use Rattle.answer.specs.held.Wrote.{Wrote};

@@ -1,5 +1,7 @@
 // Check 0B: what polygons polygon 0 reaches across the edges. The marks of the 256 polygons are bits in four words.
 
+#![tactic(auto)]
+
 ghost use Rattle.std.specs.Prelude.{◌≡◌, true, ◌%◌, ◌≤◌, ◌<◌, length};
 ghost use Rattle.bits.specs.held.Bits.{marks_of};
 ghost use Rattle.words.specs.held.Words.{poly_from};

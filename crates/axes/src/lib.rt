@@ -1,4 +1,7 @@
 // The axis that is dropped for check 05.
+
+#![tactic(auto)]
+
 ghost use Rattle.std.specs.Prelude.{◌≡◌};
 ghost use Rattle.plane.specs.Plane.{largest_axis_of};
 ghost use Rattle.space.specs.held.Points.{as_point, Near};

@@ -1,6 +1,8 @@
 // Marks as bits: one bit of a word read and set, and the marks that several words hold together, read, set, counted, and the lowest
 // number that has none.
 
+#![tactic(auto)]
+
 ghost use Rattle.std.specs.Prelude.{◌≡◌, ◌/◌, ◌≤◌, ◌<◌, eqb, length, get_or, set};
 ghost use Rattle.bits.specs.Lowest.{lowest_bare_of};
 ghost use Rattle.bits.specs.held.Bits.{bits_of, marks_of, sum_of};

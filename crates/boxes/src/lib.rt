@@ -1,6 +1,9 @@
 // Check 05 of longer rings: neighbours first; most others are told apart by their boxes, eight at a time, and by the boxes
 // of blocks of eight edges, or because they lie beside the line of another.
 // Room of 176 numbers holds the ends of edges' boxes from 0 on and of blocks' boxes from 144 on; both are followed by room for eight more.
+
+#![tactic(auto)]
+
 ghost use Rattle.std.specs.Prelude.{◌≡◌, true, ◌||◌, ◌⊎◌, ◌+◌, ◌-◌, ◌<◌, ◌≤◌, length, drop};
 ghost use Rattle.whole.specs.Lists.{any, numbered, tab};
 ghost use Rattle.crossing.specs.Crossed.{forbidden, crossed_at};

@@ -1,4 +1,7 @@
 // The held building: its tables and what is held beside the arrays.
+
+#![tactic(auto)]
+
 ghost use Rattle.std.specs.Prelude.{◌≡◌, ◌+◌, ◌<◌, ◌≤◌, length, set};
 ghost use Rattle.polygon.specs.Ring.{finding_number_of, finding_position_of};
 

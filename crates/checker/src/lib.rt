@@ -1,4 +1,7 @@
 // The one public entry: a stream refused as a whole, or answered line by line.
+
+#![tactic(auto)]
+
 ghost use Rattle.service.specs.Stream.{Answers};
 
 // The service entry: the number of answer bytes, or the number of the refusal of the whole stream. "An empty stream has no lines and

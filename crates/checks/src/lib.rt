@@ -1,4 +1,7 @@
 // Every polygon looked at, and end of load: the edge table built, whatever the findings.
+
+#![tactic(auto)]
+
 ghost use Rattle.std.specs.Prelude.{◌≡◌, ◌≤◌, length};
 ghost use Rattle.whole.specs.held.Stored.{zeroed};
 ghost use Rattle.building.specs.Tables.{loaded};

@@ -1,4 +1,7 @@
 // Check 05 over the columns of a ring's places: pair by pair of edges.
+
+#![tactic(auto)]
+
 ghost use Rattle.std.specs.Prelude.{◌≡◌, ◌+◌, ◌<◌, drop};
 ghost use Rattle.whole.specs.Lists.{any, numbered, tab};
 ghost use Rattle.crossing.specs.Crossed.{forbidden, crossed_at};

@@ -1,4 +1,7 @@
 // The desk: what is held from one line to the next, and how a line is answered.
+
+#![tactic(auto)]
+
 use building::Scalars;
 use modes::Mode;
 

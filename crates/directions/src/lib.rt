@@ -1,4 +1,7 @@
 // Check 0A among the others: the first of checks 07 to 0C that fails for the rings as they stand now.
+
+#![tactic(auto)]
+
 ghost use Rattle.std.specs.Prelude.{◌≡◌, ◌<◌, ◌≤◌, length, take};
 ghost use Rattle.shell.specs.held.Kept.{early, or_alike, now_of, heading_of, alike_in};
 

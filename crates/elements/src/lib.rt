@@ -1,4 +1,7 @@
 // The elements a and b of the check that a verdict names.
+
+#![tactic(auto)]
+
 ghost use Rattle.std.specs.Prelude.{◌≡◌};
 ghost use Rattle.shell.specs.Shell.{shape_a_of, shape_b_of};
 ghost use Rattle.building.specs.Report.{element_a_of, element_b_of};

@@ -1,4 +1,7 @@
 // Frame 04, end of load: why it is refused, and what it does.
+
+#![tactic(auto)]
+
 ghost use Rattle.std.specs.Prelude.{◌+◌, ◌≤◌, length};
 ghost use Rattle.frame.specs.Frame as F;
 ghost use Rattle.building.specs.held.Holds.{arrays};

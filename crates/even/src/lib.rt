@@ -1,4 +1,7 @@
 // Check 06: how far a ring's points are off its plane, told exactly in two machine words. Most points are settled by one.
+
+#![tactic(auto)]
+
 ghost use Rattle.std.specs.Prelude.{◌≡◌, ◌<◌, ◌≤◌, ◌*◌, max, length, pos, nat_abs, ◌*ℤ◌, false, leb, ltb};
 ghost use Rattle.space.specs.Space.{places, relative_to, dot};
 ghost use Rattle.space.specs.held.Points.{points_of, Coords, Known, place_at, as_point, Near};

@@ -1,5 +1,8 @@
 // The ends of the boxes of edges on one axis, and of blocks of eight edges, for check 05 of longer rings.
 // Room of 176 numbers holds the ends of edges' boxes from 0 on and of blocks' boxes from 144 on; both are followed by room for eight more.
+
+#![tactic(auto)]
+
 ghost use Rattle.std.specs.Prelude.{◌≡◌, ◌+◌, ◌<◌, ◌≤◌, length};
 ghost use Rattle.whole.specs.held.Small.{Small};
 ghost use Rattle.extents.specs.held.Extents.{step, ending, Line, Steps, Endings, Ahead, Blocks, Sides};

@@ -1,4 +1,7 @@
 // Places that fan out from the first of a ring: one pass tells that no two edges cross and that no number stands twice.
+
+#![tactic(auto)]
+
 ghost use Rattle.std.specs.Prelude.{◌≡◌, ◌-◌, ◌<◌, ◌≤◌, length, get_or};
 ghost use Rattle.plane.specs.Plane.{side, drop_axis};
 ghost use Rattle.space.specs.held.Points.{Coords, Known, place_at};

@@ -1,7 +1,9 @@
 // The unsigned fields of a line of digits: four or eight digits at a time.
 
+#![tactic(auto)]
+
 ghost use Rattle.std.specs.Prelude.{◌<◌, ◌^◌, ◌≡◌, true, [], ◌∷◌, take, drop};
-ghost use Rattle.hex.specs.Hex.{is_hex_of, digit_value_of, number};
+ghost use Rattle.hexadecimal.specs.Hex.{is_hex_of, digit_value_of, number};
 ghost use Rattle.fields.specs.held.Fields.{HexField, Hex4};
 
 // The number of a digit; without branches, since the next digit cannot be foreseen.

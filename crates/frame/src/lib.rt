@@ -1,7 +1,9 @@
 // Frames in: the frame of a line.
 
+#![tactic(auto)]
+
 ghost use Rattle.std.specs.Prelude.{◌+◌, ◌<◌, ◌^◌, ◌≡◌, true, take, drop, get_or};
-ghost use Rattle.hex.specs.Hex.{all_hex_of, number, signed32};
+ghost use Rattle.hexadecimal.specs.Hex.{all_hex_of, number, signed32};
 ghost use Rattle.fields.specs.held.Fields.{HexField};
 ghost use Rattle.frame.specs.Frame.{Kind, numbers, decode};
 ghost use Rattle.frame.specs.held.Meaning.{meaning, Listed, shaped};
@@ -27,7 +29,7 @@ pub fn decode(line: &[u8]) -> Fields
     if line.len() < 2 {
         return Fields::Broken;
     }
-    if !hex::all_hex(line) {
+    if !hexadecimal::all_hex(line) {
         return Fields::Broken;
     }
     let kind = fields::unsigned(line, 0, 2);

@@ -1,5 +1,7 @@
 // framecheck: reads standard input, calls the checker, and prints the answer bytes, or the negative number in decimal with a line feed.
 
+#![tactic(auto)]
+
 // The answer bytes. Where a write fails nothing more is written.
 fn show(room: &[u8], n: usize) {
     if n <= room.len() {

@@ -1,5 +1,7 @@
 // Check 0E of document 02 (iv): whether two rings of one polygon share a point.
 
+#![tactic(auto)]
+
 mod bounds;
 mod meets;
 

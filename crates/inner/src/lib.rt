@@ -1,5 +1,7 @@
 // A polygon of several rings: its finding, with its position, and its part of the six-volume.
 
+#![tactic(auto)]
+
 mod met;
 mod rings;
 

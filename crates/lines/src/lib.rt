@@ -1,5 +1,7 @@
 // The lines of a stream: where each ends, and how many there are.
 
+#![tactic(auto)]
+
 ghost use Rattle.std.specs.Prelude.{◌+◌, ◌<◌, ◌≤◌, ◌≡◌, false, length};
 ghost use Rattle.lines.specs.Lines.{lines};
 ghost use Rattle.lines.specs.held.Offsets.{line_end_of, feeds};

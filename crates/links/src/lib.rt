@@ -1,5 +1,7 @@
 // Check 0C: what corners the first corner of each point reaches across the edges that end there.
 
+#![tactic(auto)]
+
 ghost use Rattle.std.specs.Prelude.{◌≡◌, List, ℕ, ◌+◌, ◌-◌, ◌<◌, ◌≤◌, length, set};
 ghost use Rattle.bits.specs.held.Bits.{marks_of};
 ghost use Rattle.words.specs.held.Words.{step_of, next_of, dir_of, node_of};

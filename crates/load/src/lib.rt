@@ -1,4 +1,7 @@
 // Frames 01 and 02: begin, and a point more.
+
+#![tactic(auto)]
+
 use building::Scalars;
 use desk::Desk;
 use modes::Mode;

@@ -1,5 +1,7 @@
 // Check 03 in one pass: a mark for each point that a ring has met, made anew for each ring.
 
+#![tactic(auto)]
+
 ghost use Rattle.std.specs.Prelude.{◌≡◌};
 ghost use Rattle.space.specs.held.Points.{Known};
 ghost use Rattle.ring.specs.Entries.{repeated_at};

@@ -1,5 +1,7 @@
 // Check 0F of document 02 (iv): whether an inner ring of a polygon is not where or as it should be.
 
+#![tactic(auto)]
+
 mod corners;
 mod facing;
 

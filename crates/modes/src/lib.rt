@@ -1,4 +1,7 @@
 // What a service holds, told from one line to the next by three words.
+
+#![tactic(auto)]
+
 ghost use Rattle.std.specs.Prelude.{◌≡◌};
 ghost use Rattle.modes.specs.held.Mode.{loads, holds};
 

@@ -1,4 +1,7 @@
 // A point moved: the polygons that list it looked at again and stamped.
+
+#![tactic(auto)]
+
 ghost use Rattle.std.specs.Prelude.{◌≡◌, false, ◌+◌, ◌<◌, ◌≤◌, length, get_or};
 ghost use Rattle.whole.specs.Lists.{lists};
 ghost use Rattle.space.specs.held.Points.{Coords};

@@ -1,4 +1,7 @@
 // Edges that follow one another in the plane that is left by dropping an axis.
+
+#![tactic(auto)]
+
 ghost use Rattle.std.specs.Prelude.{◌≡◌, ◌+◌, ◌<◌, length, ◌*ℤ◌, ◌+ℤ◌, ◌-ℤ◌};
 ghost use Rattle.whole.specs.held.Small.{Small};
 ghost use Rattle.plane.specs.Plane.{share_more_of};

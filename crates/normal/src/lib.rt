@@ -1,4 +1,7 @@
 // The normal of a ring, for checks 04 to 06.
+
+#![tactic(auto)]
+
 ghost use Rattle.std.specs.Prelude.{◌≡◌, ◌<◌, ◌≤◌, length};
 ghost use Rattle.space.specs.Space.{places, relative_to, cross, plus};
 ghost use Rattle.space.specs.held.Points.{points_of, Coords, Known, place_at, as_point, Near};

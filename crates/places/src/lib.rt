@@ -1,4 +1,7 @@
 // The table of points: a place held against its bound, and written there.
+
+#![tactic(auto)]
+
 ghost use Rattle.std.specs.Prelude.{◌≡◌, false, ◌<◌, ltb, length, nat_abs};
 ghost use Rattle.whole.specs.held.Small.{Small};
 ghost use Rattle.places.specs.held.Places.{point3, placed};

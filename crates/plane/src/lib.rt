@@ -1,4 +1,7 @@
 // The plane that is left by dropping an axis: two edges in it.
+
+#![tactic(auto)]
+
 ghost use Rattle.std.specs.Prelude.{◌≡◌, not};
 ghost use Rattle.plane.specs.Plane.{side, same_sign, overlap, share};
 ghost use Rattle.plane.specs.held.Edges.{as_segment, spot, Close, Ends, least, most};

@@ -1,5 +1,7 @@
 // One ring: its finding, the first of checks 01 to 06 that fails, with its position, and its part of the six-volume.
 
+#![tactic(auto)]
+
 mod columns;
 pub mod five;
 

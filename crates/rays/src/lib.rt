@@ -1,4 +1,7 @@
 // The plane that an axis leaves, and whether a place is inside a ring there, for check 0F: the parity of the edges that cross its ray.
+
+#![tactic(auto)]
+
 ghost use Rattle.std.specs.Prelude.{◌≡◌, ◌<◌};
 ghost use Rattle.whole.specs.Lists.{steps};
 ghost use Rattle.space.specs.held.Points.{Coords, Known};

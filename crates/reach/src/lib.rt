@@ -1,5 +1,7 @@
 // What nodes reach along links, by marks: two nodes that are linked, of which one is marked.
 
+#![tactic(auto)]
+
 ghost use Rattle.std.specs.Prelude.{◌≡◌, ◌/◌, ◌<◌, length};
 ghost use Rattle.bits.specs.held.Bits.{marks_of};
 ghost use Rattle.reach.specs.held.Marking.{Joint};

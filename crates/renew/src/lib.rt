@@ -1,4 +1,7 @@
 // A polygon's finding and part, anew.
+
+#![tactic(auto)]
+
 ghost use Rattle.std.specs.Prelude.{◌≡◌, ◌≤◌, length};
 ghost use Rattle.space.specs.held.Points.{Coords};
 ghost use Rattle.building.specs.held.Rings.{Stands};

@@ -1,4 +1,7 @@
 // The lines of a stream one after the other, each refused or taken, and answered.
+
+#![tactic(auto)]
+
 ghost use Rattle.std.specs.Prelude.{◌≡◌, ℕ, ◌+◌, ◌*◌, ◌≤◌, length, get_or};
 ghost use Rattle.lines.specs.Lines.{lines};
 ghost use Rattle.building.specs.held.Holds.{arrays};

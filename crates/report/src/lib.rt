@@ -1,4 +1,7 @@
 // The report: the first check that fails with its elements, the faults and the six-volume, from what is kept.
+
+#![tactic(auto)]
+
 ghost use Rattle.std.specs.Prelude.{◌≡◌, ◌/◌, ◌%◌, ◌≤◌, ltb, length, take};
 ghost use Rattle.whole.specs.Lists.{tally, sum_of};
 ghost use Rattle.polygon.specs.held.Findings.{finding_of};

@@ -1,4 +1,7 @@
 // A ring as the numbers of its points: whether it lists one, and check 02. Check 03 is in crate marks.
+
+#![tactic(auto)]
+
 ghost use Rattle.std.specs.Prelude.{◌≡◌, not};
 ghost use Rattle.ring.specs.Entries.{is_unclosed};
 ghost use Rattle.whole.specs.Lists.{lists};

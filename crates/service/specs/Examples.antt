@@ -2,7 +2,7 @@
 use Rattle.std.specs.Prelude.{ℕ, map, reverse, List, [], ◌∷◌, ◌++◌, ◌≡◌, refl, ℤ, pos, negsuc}
 use Rattle.whole.specs.Lists.{lists_compute}
 use Rattle.frame.specs.Text.{bytes}
-use Rattle.hex.specs.Hex.{hex_computes}
+use Rattle.hexadecimal.specs.Hex.{hex_computes}
 use Rattle.frame.specs.Frame.{frame_computes}
 use Rattle.answer.specs.Answer.{answer_computes}
 use Rattle.polygon.specs.declared.Finding.{Finding}

@@ -3,7 +3,7 @@ use Rattle.std.specs.Prelude.{ℕ, ◌≡◌, refl, Bool, true, false, cond, ◌
 use Rattle.std.proofs.Common.{sym, ap, ◌∙◌, true≢false}
 use Rattle.lines.specs.Lines.{lines, ended}
 use Rattle.frame.specs.Frame.{Frame, begin, point, polygon, end_of_load, move, turn, question, across, broken, decode}
-use Rattle.hex.specs.Hex.{digits}
+use Rattle.hexadecimal.specs.Hex.{digits}
 use Rattle.service.specs.Service.{State, nothing, is_loading_of, step}
 use Rattle.service.specs.Stream.{Served, served_by, served, Answers}
 use Rattle.service.specs.Examples.{everything_computes, input, output}

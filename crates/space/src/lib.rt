@@ -1,4 +1,7 @@
 // Places and ways in space: where points stand.
+
+#![tactic(auto)]
+
 ghost use Rattle.std.specs.Prelude.{◌≡◌, ◌+◌, ◌<◌, ◌≤◌, ◌*◌, get_or, pos};
 ghost use Rattle.space.specs.held.Points.{Coords, place_at, as_point, Near};
 ghost use Rattle.space.specs.Space.{relative_to, dot};

@@ -1,4 +1,7 @@
 // Whether a place is that of another point: looked for among all points, or along the chain of its bucket.
+
+#![tactic(auto)]
+
 ghost use Rattle.std.specs.Prelude.{◌≡◌, false, ◌<◌, ◌≤◌, length, take};
 ghost use Rattle.whole.specs.held.Small.{Small};
 ghost use Rattle.whole.specs.held.Stored.{zeroed};

@@ -1,4 +1,7 @@
 // The report of the held building, told in its answer.
+
+#![tactic(auto)]
+
 ghost use Rattle.std.specs.Prelude.{◌+◌, ◌≤◌, length};
 ghost use Rattle.lines.specs.Lines.{ended};
 ghost use Rattle.answer.specs.held.Wrote.{Wrote};

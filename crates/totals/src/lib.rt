@@ -1,5 +1,7 @@
 // What a report adds up over the polygons: how many have a finding of their own, and the six-volume.
 
+#![tactic(auto)]
+
 ghost use Rattle.std.specs.Prelude.{◌≡◌, ◌≤◌, ltb, length, take};
 ghost use Rattle.whole.specs.Lists.{tally, sum_of};
 ghost use Rattle.totals.specs.held.Scans.{Summable};

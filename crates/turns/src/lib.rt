@@ -1,5 +1,8 @@
 // A polygon turned: its ring backwards in its place, its finding, its part, its stamp and its flag. Each polygon has one ring, that of
 // its own number.
+
+#![tactic(auto)]
+
 ghost use Rattle.std.specs.Prelude.{◌≡◌, reverse, ◌%◌, ◌<◌, ◌≤◌, length, get_or, set, pos};
 ghost use Rattle.std.proofs.lemmas.List.Edits.{sets};
 ghost use Rattle.volume.specs.Part.{part};

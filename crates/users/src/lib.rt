@@ -1,5 +1,8 @@
 // The users of an edge, read off the sorted words of the edge table: a word is an edge and then a polygon, so the words of one edge
 // stand together, the lowest polygon first.
+
+#![tactic(auto)]
+
 ghost use Rattle.std.specs.Prelude.{◌≡◌, ◌+◌, ◌<◌, ◌≤◌, length, take};
 ghost use Rattle.edges.specs.Edges.{edge};
 ghost use Rattle.edges.specs.held.Ascending.{Asc};

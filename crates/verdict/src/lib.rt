@@ -1,4 +1,7 @@
 // Document 01's number of the check that a verdict names.
+
+#![tactic(auto)]
+
 ghost use Rattle.std.specs.Prelude.{◌≡◌};
 ghost use Rattle.shell.specs.Shell.{shape_number_of};
 ghost use Rattle.building.specs.Report.{check_number_of};

@@ -1,4 +1,7 @@
 // A polygon's part of the six-volume.
+
+#![tactic(auto)]
+
 ghost use Rattle.std.specs.Prelude.{◌≡◌, ◌<◌};
 ghost use Rattle.space.specs.held.Points.{points_of, Coords, Known, place_at, at};
 ghost use Rattle.space.specs.Space.{determinant};

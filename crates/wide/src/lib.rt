@@ -1,5 +1,7 @@
 // Two machine words as one exact number: product, sum and order.
 
+#![tactic(auto)]
+
 ghost use Rattle.std.specs.Prelude.{◌≡◌, ◌+◌, ◌*◌, ◌^◌, ◌<◌, nat_lt, unsigned_abs};
 ghost use Rattle.wide.specs.Value.{value};
 

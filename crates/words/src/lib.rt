@@ -1,5 +1,7 @@
 // What a word of the edge table tells of its edge and of the nodes that it joins, and where the other word of its pair stands.
 
+#![tactic(auto)]
+
 ghost use Rattle.std.specs.Prelude.{◌≡◌, ◌<◌};
 ghost use Rattle.words.specs.held.Words.{key_from, node_of, Mate};
 

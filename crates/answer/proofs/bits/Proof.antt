@@ -2,7 +2,7 @@
 use native.Mathlib.Omega.{arith}
 use mir.Facts.{Fits-nat_abs}
 use mir.Syntax.{w64}
-use Rattle.hex.specs.laws.Signed.{seen, neg', flipped, back, bits_neg, bits_pos}
+use Rattle.hexadecimal.specs.laws.Signed.{seen, neg', flipped, back, bits_neg, bits_pos}
 use Rattle.answer.proofs.bits.Statement.{statement}
 use Rattle.answer.proofs.bits.Tie as tie
 

@@ -1,5 +1,5 @@
 -- `digit_of` meets its contract: 7 more from 10 on.
-use Rattle.hex.specs.laws.Digits.{digit_by}
+use Rattle.hexadecimal.specs.laws.Digits.{digit_by}
 use borrow.Author.Rules.{rules}
 use Rattle.answer.proofs.digit_of.Statement.{statement}
 use Rattle.answer.proofs.digit_of.Tie as tie

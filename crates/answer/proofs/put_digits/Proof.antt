@@ -5,7 +5,7 @@ use mathlib.Core.Path.{◌≡◌, ◌∙◌}
 use borrow.Author.Rules.{rules}
 use lib.ListN.{length}
 use lib.Seq.{sets}
-use Rattle.hex.specs.Hex.{digits}
+use Rattle.hexadecimal.specs.Hex.{digits}
 use Rattle.answer.specs.laws.Room.{put_turn}
 use Rattle.answer.proofs.put_digits.Statement.{statement}
 use Rattle.answer.proofs.put_digits.Tie as tie

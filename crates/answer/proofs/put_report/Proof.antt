@@ -3,7 +3,7 @@ use mathlib.Core.Path.{refl, ap, ◌∙◌}
 use borrow.Author.Rules.{rules}
 use lib.ListN.{length-set}
 use mir.Facts.{to_z-of_z}
-use Rattle.hex.specs.Hex.{bits64}
+use Rattle.hexadecimal.specs.Hex.{bits64}
 use Rattle.answer.specs.Answer.{reported}
 use Rattle.answer.specs.laws.Room.{put_first, put_then, put_end}
 use Rattle.answer.proofs.put_report.Statement.{statement}

@@ -7,8 +7,8 @@ use Rattle.std.proofs.Math.ListN.{length, set}
 use Rattle.std.proofs.lemmas.List.Edits.{sets}
 use Rattle.std.proofs.lemmas.List.{set_comm}
 use Rattle.whole.specs.laws.Stores.{sets_append}
-use Rattle.hex.specs.Hex.{digit, digits}
-use Rattle.hex.specs.laws.Back.{length_digits}
+use Rattle.hexadecimal.specs.Hex.{digit, digits}
+use Rattle.hexadecimal.specs.laws.Back.{length_digits}
 use Rattle.lines.specs.Lines.{ended}
 use Rattle.answer.specs.held.Wrote.{Wrote}
 

@@ -1,6 +1,6 @@
 -- `digit_value` meets its contract: what the bits of the byte give is the number of the digit.
 use borrow.Author.Rules.{rules}
-use Rattle.hex.specs.laws.Digits.{digit_is}
+use Rattle.hexadecimal.specs.laws.Digits.{digit_is}
 use Rattle.fields.proofs.digit_value.Statement.{statement}
 use Rattle.fields.proofs.digit_value.Tie as tie
 

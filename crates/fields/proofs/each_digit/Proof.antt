@@ -4,8 +4,8 @@ use native.Mathlib.Omega.{arith}
 use mathlib.Core.Path.{◌≡◌}
 use borrow.Author.Rules.{rules}
 use lib.ListN.{take, drop}
-use Rattle.hex.specs.Hex.{number, number_from}
-use Rattle.hex.specs.laws.Digits.{number-turn, number_more, number_fits, all_hex-at}
+use Rattle.hexadecimal.specs.Hex.{number, number_from}
+use Rattle.hexadecimal.specs.laws.Digits.{number-turn, number_more, number_fits, all_hex-at}
 use Rattle.fields.proofs.each_digit.Statement.{statement}
 use Rattle.fields.proofs.each_digit.Tie as tie
 

@@ -1,7 +1,7 @@
 -- `four` meets its contract: the four bytes are the field.
 use native.Mathlib.Omega.{arith}
 use mathlib.Core.Path.{ap, ◌∙◌}
-use Rattle.hex.specs.Hex.{number}
+use Rattle.hexadecimal.specs.Hex.{number}
 use Rattle.fields.specs.laws.Lanes.{bytes-of_4, hex_of_4}
 use borrow.Author.Rules.{rules}
 use Rattle.fields.proofs.four.Statement.{statement}

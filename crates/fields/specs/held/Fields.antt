@@ -1,6 +1,6 @@
 -- What the code that reads digits asks of them: a field of a line, four bytes that are digits.
 use Rattle.std.specs.Prelude.{ℕ, ◌+◌, ◌≤◌, ◌≡◌, true, List, length}
-use Rattle.hex.specs.Hex.{is_hex_of, all_hex_of}
+use Rattle.hexadecimal.specs.Hex.{is_hex_of, all_hex_of}
 
 -- a line of digits has a field of k digits, a number of the machine, at an offset
 pub record HexField (l : List ℕ) (at k : ℕ) : Type 0 where

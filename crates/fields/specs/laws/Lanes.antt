@@ -8,8 +8,8 @@ use Rattle.std.specs.Int.Bits.{bit_and, and_zero_r}
 use Rattle.std.proofs.lemmas.Nat.{and_block, and_mask}
 use Rattle.std.proofs.lemmas.Nat.Bits.{and_high}
 use Rattle.whole.specs.All.{All, none, more}
-use Rattle.hex.specs.Hex.{is_hex_of, all_hex_of, digit_value_of, number_from, number}
-use Rattle.hex.specs.laws.Digits.{digit_is, value_below, hex_below, all_hex-at}
+use Rattle.hexadecimal.specs.Hex.{is_hex_of, all_hex_of, digit_value_of, number_from, number}
+use Rattle.hexadecimal.specs.laws.Digits.{digit_is, value_below, hex_below, all_hex-at}
 use Rattle.fields.specs.held.Fields.{Hex4}
 
 -- a word of bytes, the first lowest

@@ -1,8 +1,8 @@
 -- `coordinate` meets its contract: the signed number of an unsigned field of eight digits.
 use mathlib.Core.Path.{ap, ◌∙◌}
 use borrow.Author.Rules.{rules}
-use Rattle.hex.specs.Hex.{signed32}
-use Rattle.hex.specs.laws.Signed.{signed_back}
+use Rattle.hexadecimal.specs.Hex.{signed32}
+use Rattle.hexadecimal.specs.laws.Signed.{signed_back}
 use Rattle.frame.proofs.coordinate.Statement.{statement}
 use Rattle.frame.proofs.coordinate.Tie as tie
 

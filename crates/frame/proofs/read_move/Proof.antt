@@ -4,7 +4,7 @@ use borrow.Author.Rules.{rules}
 use Rattle.frame.specs.Frame.{Kind, fits}
 use Rattle.frame.specs.held.Meaning.{meaning}
 use Rattle.frame.specs.laws.Decoded.{shaped_broken, field_of, move_is}
-use Rattle.hex.specs.laws.Signed.{signed_back}
+use Rattle.hexadecimal.specs.laws.Signed.{signed_back}
 use Rattle.frame.proofs.read_move.Statement.{statement}
 use Rattle.frame.proofs.read_move.Tie as tie
 

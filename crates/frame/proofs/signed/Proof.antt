@@ -1,5 +1,5 @@
 -- `signed` meets its contract: 2^31 more within 32 bits, and 2^31 less.
-use Rattle.hex.specs.laws.Signed.{lifted-fits, signed-lifted}
+use Rattle.hexadecimal.specs.laws.Signed.{lifted-fits, signed-lifted}
 use borrow.Author.Rules.{rules}
 use Rattle.frame.proofs.signed.Statement.{statement}
 use Rattle.frame.proofs.signed.Tie as tie

@@ -1,6 +1,6 @@
 -- What a value of the code's `Fields` says of a line: document 01's frame, with its values.
 use Rattle.std.specs.Prelude.{ℕ, zero, suc, ◌<◌, ◌≡◌, true, cond, List, [], ◌∷◌, length, drop}
-use Rattle.hex.specs.Hex.{all_hex_of}
+use Rattle.hexadecimal.specs.Hex.{all_hex_of}
 use Rattle.frame.specs.Frame.{Frame, Kind, fits, numbers, filled}
 use Rattle.frame.specs.declared.Fields.{Fields}
 use Rattle.frame.specs.declared.Fields.TheVariants.{Begin, Point, Polygon, EndOfLoad, Move, Turn, Question, Across, Broken}

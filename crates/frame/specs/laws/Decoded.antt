@@ -7,7 +7,7 @@ use mathlib.Core.List.{List, [], ◌∷◌}
 use borrow.Author.Tests.{eq-eqb, ne_eqb, le-leb, lt-leb}
 use Rattle.std.proofs.Math.ListN.{length, drop, length-drop}
 use Rattle.std.proofs.Math.Seq.{drop-drop}
-use Rattle.hex.specs.Hex.{all_hex_of, number, signed32}
+use Rattle.hexadecimal.specs.Hex.{all_hex_of, number, signed32}
 use Rattle.frame.specs.Frame.{Frame, begin, point, polygon, end_of_load, move, turn, question, across, broken, Kind, kind_of, kind_named, fits, unsigned, coordinate, numbers, filled, decode}
 use Rattle.whole.specs.laws.Bools.{and_left, and_false}
 use Rattle.frame.specs.laws.RoundTrip.{numbers_few, decode_well}

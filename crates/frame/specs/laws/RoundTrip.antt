@@ -4,10 +4,10 @@ use Rattle.std.proofs.Common.{arith, ap, ap₂, ◌∙◌, le-leb, leb-true, len
 use Rattle.std.proofs.Math.Path.{refl}
 use Rattle.whole.specs.laws.Bools.{and_left, and_right}
 use Rattle.whole.specs.All.{All, none, more}
-use Rattle.hex.specs.Hex.{all_hex_of, number, signed32, digits, bits32, hex_computes}
+use Rattle.hexadecimal.specs.Hex.{all_hex_of, number, signed32, digits, bits32, hex_computes}
 use Rattle.frame.specs.Frame.{Frame, begin, point, polygon, end_of_load, move, turn, question, across, broken, Kind, kind_of, kind_named, fits, unsigned, coordinate, numbers, filled, decode}
 use Rattle.frame.specs.Encode.{four_each, eight, encode}
-use Rattle.hex.specs.laws.Back.{all_hex_append, all_hex-digits, length_digits, number_digits, Fits32, bits32_small, signed32-bits32}
+use Rattle.hexadecimal.specs.laws.Back.{all_hex_append, all_hex-digits, length_digits, number_digits, Fits32, bits32_small, signed32-bits32}
 
 -- ---- frames
 

@@ -2,13 +2,13 @@
 use Rattle.std.specs.Prelude.{ℕ, ◌≡◌, true, List, [], ◌∷◌, map}
 use Rattle.std.proofs.Common.{sym, ap, ◌∙◌, true≢false}
 use Rattle.whole.specs.All.{All, none, more}
-use Rattle.hex.specs.Hex.{is_hex_of, all_hex_of}
+use Rattle.hexadecimal.specs.Hex.{is_hex_of, all_hex_of}
 use Rattle.lines.specs.Lines.{lines, joined}
 use Rattle.frame.specs.Frame.{Frame}
 use Rattle.frame.specs.Encode.{encode}
 use Rattle.whole.specs.laws.Bools.{and_left, and_right}
 use Rattle.frame.specs.laws.RoundTrip.{all_hex-encode}
-use Rattle.hex.specs.laws.Digits.{all_hex_cons}
+use Rattle.hexadecimal.specs.laws.Digits.{all_hex_cons}
 use Rattle.lines.specs.laws.LineLaws.{NoFeed, lines-joined}
 
 -- a line feed is no digit

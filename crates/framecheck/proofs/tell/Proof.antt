@@ -1,7 +1,7 @@
 -- `framecheck::tell` meets its contract.
 use mir.Facts.{Fits-nat_abs}
 use mir.Syntax.{w64}
-use Rattle.hex.specs.laws.Signed.{seen, bits_pos}
+use Rattle.hexadecimal.specs.laws.Signed.{seen, bits_pos}
 use borrow.Author.Rules.{rules}
 use Rattle.framecheck.proofs.tell.Statement.{statement}
 use Rattle.framecheck.proofs.tell.Tie as tie

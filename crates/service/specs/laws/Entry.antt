@@ -10,8 +10,8 @@ use Rattle.whole.specs.All.{All, none, more}
 use Rattle.whole.specs.laws.Alls.{all_append}
 use Rattle.lines.specs.Lines.{lines, ended, joined}
 use Rattle.lines.specs.laws.LineLaws.{NoFeed, lines-joined, length-joined}
-use Rattle.hex.specs.Hex.{digits, bits32}
-use Rattle.hex.specs.laws.Back.{length_digits}
+use Rattle.hexadecimal.specs.Hex.{digits, bits32}
+use Rattle.hexadecimal.specs.laws.Back.{length_digits}
 use Rattle.frame.specs.laws.RoundTrip.{length-four_each}
 use Rattle.frame.specs.Frame.{begin, point, polygon, end_of_load}
 use Rattle.frame.specs.Encode.{encode, eight, four_each}

@@ -15,7 +15,7 @@ use Rattle.whole.specs.All.{All, none, more}
 use Rattle.whole.specs.laws.Alls.{all_imp, any_none, none_any}
 use Rattle.frame.specs.Frame.{Frame, begin, point, polygon, end_of_load, move, turn, question, across, broken, decode}
 use Rattle.frame.specs.Encode.{encode}
-use Rattle.hex.specs.laws.Back.{Fits32, above, below}
+use Rattle.hexadecimal.specs.laws.Back.{Fits32, above, below}
 use Rattle.frame.specs.laws.RoundTrip.{decode-begin, decode_end, decode_point, decode-polygon, WellFormed, decode_well}
 use Rattle.space.specs.Space.{Point}
 use Rattle.places.specs.Points.{is_far_of, stands}

@@ -1,11 +1,11 @@
 -- No answer is longer than 33 bytes, so the answers fit the room asked for.
 use Rattle.std.specs.Prelude.{ℕ, ◌*◌, ◌≤◌, List, [], ◌∷◌, length, ℤ}
 use Rattle.std.proofs.Common.{arith, length-append}
-use Rattle.hex.specs.Hex.{digits}
+use Rattle.hexadecimal.specs.Hex.{digits}
 use Rattle.lines.specs.Lines.{lines, ended}
 use Rattle.frame.specs.Frame.{Frame, begin, point, polygon, end_of_load, move, turn, question, across, broken, decode}
 use Rattle.answer.specs.Answer.{plain, reported, told}
-use Rattle.hex.specs.laws.Back.{length_digits}
+use Rattle.hexadecimal.specs.laws.Back.{length_digits}
 use Rattle.service.specs.declared.Refusal.{Refusal}
 use Rattle.service.specs.declared.Refusal.TheVariants.{Accepted, Malformed, Misplaced, Beyond, Full, Absent, Taken, Late}
 use Rattle.service.specs.Service.{State, nothing, report_of, told_of, across_of, answer_to, outcome, refusal, step}

@@ -1,8 +1,8 @@
 -- `is_hex` meets its contract: the tests are those of the definition.
 use mathlib.Core.Path.{refl}
-use Rattle.hex.specs.Hex.{is_hex_of}
-use Rattle.hex.proofs.is_hex.Statement.{statement}
-use Rattle.hex.proofs.is_hex.Tie as tie
+use Rattle.hexadecimal.specs.Hex.{is_hex_of}
+use Rattle.hexadecimal.proofs.is_hex.Statement.{statement}
+use Rattle.hexadecimal.proofs.is_hex.Tie as tie
 
 returns : tie.Need-returns
 unfolding is_hex_of

@@ -6,10 +6,10 @@ use mathlib.Core.Bool.{true, ◌&&◌}
 use borrow.Author.Rules.{rules}
 use lib.ListN.{length, drop}
 use Rattle.whole.specs.laws.Bools.{and_left}
-use Rattle.hex.specs.Hex.{all_hex_of}
-use Rattle.hex.specs.laws.Digits.{hex_block, hex_last, hex_start, hex_finish}
-use Rattle.hex.proofs.all_hex.Statement.{statement}
-use Rattle.hex.proofs.all_hex.Tie as tie
+use Rattle.hexadecimal.specs.Hex.{all_hex_of}
+use Rattle.hexadecimal.specs.laws.Digits.{hex_block, hex_last, hex_start, hex_finish}
+use Rattle.hexadecimal.proofs.all_hex.Statement.{statement}
+use Rattle.hexadecimal.proofs.all_hex.Tie as tie
 
 abbrev invariant-loop : tie.invariant-loop
 invariant-loop line last good₀ i₀ good i = ((good && all_hex_of (drop i line)) ≡ all_hex_of line) × (good ≡ true → all_hex_of (drop last line) ≡ true)

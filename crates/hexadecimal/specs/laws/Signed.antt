@@ -7,7 +7,7 @@ use Rattle.std.proofs.Math.IntN.{pos}
 use Rattle.std.specs.Int.Signed.{lt_z, mag, non_neg}
 use mir.Syntax.{w64}
 use Rattle.std.proofs.Math.Facts.{to_z_pos}
-use Rattle.hex.specs.Hex.{signed32, bits64}
+use Rattle.hexadecimal.specs.Hex.{signed32, bits64}
 
 -- -1 - m
 pub below : (m : ℕ) → negsuc 0 -ℤ pos m ≡ negsuc m

@@ -4,10 +4,10 @@ use native.Mathlib.Omega.{arith}
 use mathlib.Core.Path.{◌≡◌}
 use borrow.Author.Rules.{rules}
 use lib.ListN.{take, drop}
-use Rattle.hex.specs.Hex.{all_hex_of}
-use Rattle.hex.specs.laws.Digits.{hex_more}
-use Rattle.hex.proofs.sixteen_hex.Statement.{statement}
-use Rattle.hex.proofs.sixteen_hex.Tie as tie
+use Rattle.hexadecimal.specs.Hex.{all_hex_of}
+use Rattle.hexadecimal.specs.laws.Digits.{hex_more}
+use Rattle.hexadecimal.proofs.sixteen_hex.Statement.{statement}
+use Rattle.hexadecimal.proofs.sixteen_hex.Tie as tie
 
 abbrev invariant-loop : tie.invariant-loop
 invariant-loop line at good₀ i₀ good i = (i ≤ 16) × (good ≡ all_hex_of (take i (drop at line)))

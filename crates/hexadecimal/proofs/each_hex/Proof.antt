@@ -4,10 +4,10 @@ use mathlib.Core.Path.{◌≡◌, refl, sym, ◌∙◌}
 use mathlib.Core.Bool.{◌&&◌}
 use borrow.Author.Rules.{rules}
 use lib.ListN.{length, drop}
-use Rattle.hex.specs.Hex.{all_hex_of}
-use Rattle.hex.specs.laws.Digits.{hex_turn, hex_end}
-use Rattle.hex.proofs.each_hex.Statement.{statement}
-use Rattle.hex.proofs.each_hex.Tie as tie
+use Rattle.hexadecimal.specs.Hex.{all_hex_of}
+use Rattle.hexadecimal.specs.laws.Digits.{hex_turn, hex_end}
+use Rattle.hexadecimal.proofs.each_hex.Statement.{statement}
+use Rattle.hexadecimal.proofs.each_hex.Tie as tie
 
 abbrev invariant-loop : tie.invariant-loop
 invariant-loop line good₀ i₀ good i = (good && all_hex_of (drop i line)) ≡ all_hex_of line

@@ -6,9 +6,9 @@ use Rattle.std.proofs.Math.Nat.{pow-le-pow_right}
 use Rattle.std.proofs.Math.Logic.{⊎_elim}
 use borrow.Author.Tests.{leb-true, ltb-true, ltb-false, lt-ltb, le-ltb}
 use Rattle.std.proofs.Math.Dec.{ltb}
-use Rattle.hex.specs.Hex.{is_hex_of, all_hex_of, digit_value_of, number_from, number, digit}
+use Rattle.hexadecimal.specs.Hex.{is_hex_of, all_hex_of, digit_value_of, number_from, number, digit}
 use Rattle.whole.specs.laws.Bools.{and_left, and_right, or_cases}
-use Rattle.hex.specs.laws.Back.{number_from_append}
+use Rattle.hexadecimal.specs.laws.Back.{number_from_append}
 
 -- ---- one digit
 

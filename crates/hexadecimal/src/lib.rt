@@ -1,6 +1,9 @@
 // Upper-case hexadecimal: whether a line has digits only.
+
+#![tactic(auto)]
+
 ghost use Rattle.std.specs.Prelude.{◌+◌, ◌<◌, ◌≤◌, ◌≡◌, true, length, take, drop};
-ghost use Rattle.hex.specs.Hex.{is_hex_of, all_hex_of};
+ghost use Rattle.hexadecimal.specs.Hex.{is_hex_of, all_hex_of};
 
 // Whether a byte is a digit; without branches, so that a line is tested many bytes at a time.
 fn is_hex(b: u8) -> bool
