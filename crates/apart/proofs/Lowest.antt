@@ -9,7 +9,6 @@ use mathlib.Core.List.{List}
 use borrow.Author.Tests.{eq-eqb, eqb-true}
 use lib.Dec.{eqb}
 use lib.ListN.{length, get_or, set, length-set}
-use Rattle.whole.specs.Lists.{least_index}
 use Rattle.whole.specs.laws.Index.{index_least}
 use Rattle.bits.specs.Lowest.{lowest_bare_of}
 use Rattle.words.specs.held.Words.{poly_from}

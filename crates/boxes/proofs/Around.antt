@@ -15,7 +15,7 @@ use Rattle.crossing.specs.Crossed.{forbidden}
 use Rattle.plane.specs.held.Edges.{edge_at}
 use Rattle.boxes.specs.held.Boxes.{Apart}
 use Rattle.boxes.specs.held.Around.{Free}
-use Rattle.crossing.specs.laws.Pairs.{edges, row_next, row-end}
+use Rattle.crossing.proofs.laws.Pairs.{edges, row_next, row-end}
 use Rattle.whole.specs.laws.Bools.{and_false}
 
 -- ---- the last edge is a neighbour of the first

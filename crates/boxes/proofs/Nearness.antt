@@ -20,7 +20,7 @@ use Rattle.boxes.specs.held.Around.{Beside}
 use Rattle.whole.specs.laws.Bools.{and_left, and_right}
 use Rattle.plane.specs.laws.Stretches.{most_below, least_above, box_apart}
 use Rattle.extents.specs.laws.Steps.{step_order}
-use Rattle.crossing.specs.laws.Pairs.{edges, clash-other, row-over}
+use Rattle.crossing.proofs.laws.Pairs.{edges, clash-other, row-over}
 use Rattle.plane.specs.laws.Sharing.{share-apart, share-beside}
 
 -- ---- a test of two parts

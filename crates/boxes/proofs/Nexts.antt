@@ -12,7 +12,7 @@ use Rattle.whole.specs.laws.Bools.{or_left, or_right}
 use Rattle.crossing.specs.Crossed.{forbidden, crossed_at}
 use Rattle.plane.specs.held.Edges.{edge_at}
 use Rattle.boxes.specs.held.Around.{NextClash, Nexts, FirstNext, FirstNear}
-use Rattle.crossing.specs.laws.Pairs.{edges, row_here, row-back_to, row_at, Clear, clear-found, clear-end}
+use Rattle.crossing.proofs.laws.Pairs.{edges, row_here, row-back_to, row_at, Clear, clear-found, clear-end}
 
 -- ---- edges that follow one another: the first n are looked at
 module _ (us vs : List ℤ) (m : ℕ) where

@@ -9,7 +9,7 @@ use polygon::Finding;
 use shell::Shape;
 
 // The check that a report names, with its elements. `check_number_of`, `element_a_of` and `element_b_of` give document 01's numbers.
-#[derive(Drop)]
+#[derive(Clone, Copy)]
 pub enum Verdict {
     Accepted,
     Faulty(usize, Finding),
@@ -20,7 +20,7 @@ pub enum Verdict {
 // What is held beside the arrays: the numbers of points, polygons and words of the edge table in use, the last accepted
 // correction number, the check of the whole that no correction changes, and the one that fails first as the rings stand now, which only
 // a turn changes.
-#[derive(Drop)]
+#[derive(Clone, Copy)]
 pub struct Scalars {
     pub tolerance: u16,
     pub points: usize,

@@ -6,8 +6,7 @@ ghost use Rattle.service.specs.Stream.{Answers};
 
 // The service entry: the number of answer bytes, or the number of the refusal of the whole stream. "An empty stream has no lines and
 // returns 0": nothing is set up for it.
-#[unsafe(no_mangle)]
-pub extern "C" fn checker_answer(stream: &[u8], room: &mut [u8]) -> i64
+pub fn checker_answer(stream: &[u8], room: &mut [u8]) -> i64
     ensures { Answers stream.now room.old result room.new }
 {
     if stream.len() == 0 {

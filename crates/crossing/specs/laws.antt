@@ -1,5 +1,3 @@
 -- What is proved of the definitions.
 pub mod Agree
 pub mod CrossedTurn
-pub mod Least
-pub mod Pairs

@@ -10,7 +10,7 @@ mod answers;
 pub use answers::{is_accepted, refuse};
 
 // The service's scalars: what is held, and the place in the room where the next answer goes.
-#[derive(Drop)]
+#[derive(Clone, Copy)]
 pub struct Desk {
     pub mode: Mode,
     pub held: Scalars,

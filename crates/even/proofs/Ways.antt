@@ -17,12 +17,12 @@ use Rattle.space.specs.Space.{Point, origin, relative_to, dot, places}
 use Rattle.ring.specs.Entries.{is_unclosed}
 use Rattle.normal.specs.Normal.{relative, normal}
 use Rattle.even.specs.Even.{square, squares, exceeds, is_uneven, uneven_at}
-use Rattle.even.specs.laws.Quad.{quad_uneven}
+use Rattle.even.proofs.laws.Quad.{quad_uneven}
 use Rattle.space.specs.held.Points.{points_of, place_at, Coords, Known}
 use Rattle.even.specs.held.Offs.{largest, Listed, off_at, Within}
 use Rattle.space.specs.laws.Sizes.{point_at}
-use Rattle.even.specs.laws.Distance.{decides, settled, far}
-use Rattle.even.specs.laws.Least.{relative-length, relative-at, uneven_is, uneven-least}
+use Rattle.even.proofs.laws.Distance.{decides, settled, far}
+use Rattle.even.proofs.laws.Least.{relative-length, relative-at, uneven_is, uneven-least}
 
 -- ---- the places of a ring, relative to its first
 pub ways : List Point → List ℕ → List Point

@@ -1,6 +1,2 @@
 -- What is proved of the definitions.
 pub mod Agree
-pub mod Distance
-pub mod Foot
-pub mod Least
-pub mod Quad

@@ -1,5 +1,5 @@
 -- The frame table: every line is one frame, or broken (refusal 01).
-use Rattle.std.specs.Prelude.{ℕ, ◌-◌, ◌%◌, Bool, true, false, cond, ◌&&◌, List, [], ◌∷◌, leb, eqb, length, take, drop, ℤ}
+use Rattle.std.specs.Prelude.{ℕ, ◌%◌, Bool, true, false, cond, ◌&&◌, List, [], ◌∷◌, leb, eqb, length, take, drop, ℤ}
 use Rattle.hexadecimal.specs.Hex.{all_hex_of, number, signed32}
 
 -- a frame, with its fields; a place is three coordinates

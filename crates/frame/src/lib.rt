@@ -9,7 +9,7 @@ ghost use Rattle.frame.specs.Frame.{Kind, numbers, decode};
 ghost use Rattle.frame.specs.held.Meaning.{meaning, Listed, shaped};
 
 // The frame of a line, by value; a polygon's point numbers stay in its line, where `entry` reads them.
-#[derive(Drop)]
+#[derive(Clone, Copy)]
 pub enum Fields {
     Begin(u16),
     Point(i64, i64, i64),

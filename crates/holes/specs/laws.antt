@@ -1,11 +1,9 @@
 -- What is proved of the definitions.
 pub mod Agree
 pub mod Boxes
-pub mod Corners
 pub mod Examples
 pub mod Meeting
 pub mod Passes
 pub mod Polygons
 pub mod Some
 pub mod Tables
-pub mod Turned

@@ -9,7 +9,7 @@ ghost use Rattle.holes.specs.held.Boxes.{further, Sized, Widened, Bounded, parte
 use plane::Edge;
 
 // The least and the largest numbers of places, on either axis.
-#[derive(Drop)]
+#[derive(Clone, Copy)]
 pub struct Bounds {
     pub lu: i64,
     pub hu: i64,

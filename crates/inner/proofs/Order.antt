@@ -8,13 +8,13 @@ use borrow.Author.Tests.{lt-ltb, le-ltb}
 use lib.ListN.{length}
 use Rattle.whole.specs.Lists.{first}
 use Rattle.whole.specs.All.{none, more}
-use Rattle.whole.specs.laws.First.{rows, first_is, first-none}
+use Rattle.whole.proofs.laws.First.{rows, first_is, first-none}
 use Rattle.space.specs.Space.{Point, places}
 use Rattle.space.specs.declared.Axis.{Axis}
 use Rattle.plane.specs.Plane.{largest_axis_of}
 use Rattle.normal.specs.Normal.{normal}
 use Rattle.even.specs.Even.{is_uneven, uneven_at}
-use Rattle.even.specs.laws.Least.{uneven_is}
+use Rattle.even.proofs.laws.Least.{uneven_is}
 use Rattle.ring.specs.Polygon.{Polygon, rings_of, entries_from}
 use Rattle.holes.specs.Holes.{seen, component, component_of, is_shared, is_misplaced_of}
 use Rattle.polygon.specs.declared.Finding.{Finding}
@@ -25,7 +25,7 @@ use Rattle.polygon.specs.laws.Position.{places-length}
 use Rattle.polygon.specs.laws.Rows.{kept_sound, kept_fault}
 use Rattle.inner.specs.Finding.{finding}
 use Rattle.inner.specs.laws.Rows.{rings_finding}
-use Rattle.inner.specs.laws.Checks.{last_checks, finding-early, finding_late}
+use Rattle.inner.proofs.laws.Checks.{last_checks, finding-early, finding_late}
 
 module _ (tolerance : ℕ) (points : List Point) (p : Polygon) where
   abbrev n : Point

@@ -6,7 +6,7 @@ ghost use Rattle.std.specs.Prelude.{◌≡◌};
 ghost use Rattle.modes.specs.held.Mode.{loads, holds};
 
 // What is held: nothing, a load that runs, or a building.
-#[derive(Drop)]
+#[derive(Clone, Copy)]
 pub enum Mode {
     Nothing,
     Loading,

@@ -7,7 +7,7 @@ ghost use Rattle.plane.specs.Plane.{side, same_sign, overlap, share};
 ghost use Rattle.plane.specs.held.Edges.{as_segment, spot, Close, Ends, least, most};
 
 // An edge in the plane that is left, from a to b.
-#[derive(Drop)]
+#[derive(Clone, Copy)]
 pub struct Edge {
     pub au: i64,
     pub av: i64,

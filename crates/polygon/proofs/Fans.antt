@@ -24,7 +24,7 @@ use Rattle.space.specs.laws.Sizes.{point_at}
 use Rattle.polygon.specs.laws.Triangle.{differ}
 use Rattle.fan.specs.held.Fan.{every, fans, is_fan_of}
 use Rattle.polygon.specs.laws.Fan.{some_at, next-apart, last_apart, other-apart}
-use Rattle.crossing.specs.laws.Pairs.{clash_next_lem, clash-last, clash-other}
+use Rattle.crossing.proofs.laws.Pairs.{clash_next_lem, clash-last, clash-other}
 use Rattle.whole.specs.laws.Front.{front_is}
 use Rattle.ring.specs.laws.Rings.{closed_is}
 

@@ -8,7 +8,7 @@ use borrow.Author.Tests.{lt-ltb, le-ltb}
 use lib.ListN.{length}
 use Rattle.whole.specs.All.{none, more}
 use Rattle.whole.specs.Lists.{given, first}
-use Rattle.whole.specs.laws.First.{rows, first_is, first-none, first_given, first_past}
+use Rattle.whole.proofs.laws.First.{rows, first_is, first-none, first_given, first_past}
 use Rattle.polygon.specs.declared.Finding.{Finding}
 use Rattle.polygon.specs.declared.Finding.TheVariants.{Sound, Short, Unclosed, Repeated, NoNormal, Crossed, Uneven}
 use Rattle.space.specs.Space.{Point, places}
@@ -19,9 +19,9 @@ use Rattle.ring.specs.Entries.{is_unclosed, is_repeated, repeated_at}
 use Rattle.ring.specs.laws.Repeated.{repeated_is}
 use Rattle.normal.specs.Normal.{normal, is_zero_of}
 use Rattle.crossing.specs.Crossed.{is_crossed, crossed_at}
-use Rattle.crossing.specs.laws.Least.{crossed_is}
+use Rattle.crossing.proofs.laws.Least.{crossed_is}
 use Rattle.even.specs.Even.{is_uneven, uneven_at}
-use Rattle.even.specs.laws.Least.{uneven_is}
+use Rattle.even.proofs.laws.Least.{uneven_is}
 use Rattle.polygon.specs.laws.Checks.{ring_checks, ring_rows_lem}
 use Rattle.polygon.specs.laws.Rows.{finding_taken, finding-left, kept_sound, kept_fault}
 use Rattle.polygon.specs.laws.Position.{places-length, edges-length}

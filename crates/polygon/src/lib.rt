@@ -18,7 +18,7 @@ use space::Place;
 
 // A polygon's finding, with its position where it has one; `Sound` where no check fails. `finding_number_of` gives document 01's number,
 // `finding_position_of` the position that is told.
-#[derive(Drop)]
+#[derive(Clone, Copy)]
 pub enum Finding {
     Sound,
     Short,
@@ -32,7 +32,7 @@ pub enum Finding {
 }
 
 // What is told of a polygon alone: its finding as it is kept, and its part of the six-volume.
-#[derive(Drop)]
+#[derive(Clone, Copy)]
 pub struct Look {
     pub kept: u16,
     pub part: i64,

@@ -3,7 +3,4 @@ pub mod Stream
 pub mod Strike
 pub mod Fresh
 pub mod Span
-pub mod laws
 pub mod Examples
-pub mod Wrong
-pub mod Demands

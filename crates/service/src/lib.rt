@@ -4,7 +4,7 @@
 #![tactic(auto)]
 
 // Why a frame is refused; `Accepted` where no test refuses it. `refusal_number_of` gives document 01's number.
-#[derive(Drop)]
+#[derive(Clone, Copy)]
 pub enum Refusal {
     Accepted,
     Malformed,

@@ -7,7 +7,7 @@ ghost use Rattle.space.specs.held.Points.{Coords, place_at, as_point, Near};
 ghost use Rattle.space.specs.Space.{relative_to, dot};
 
 // An axis of space; one is dropped for check 05.
-#[derive(Drop)]
+#[derive(Clone, Copy)]
 pub enum Axis {
     X,
     Y,
@@ -15,7 +15,7 @@ pub enum Axis {
 }
 
 // A place, or the way from one place to another.
-#[derive(Drop)]
+#[derive(Clone, Copy)]
 pub struct Place {
     pub x: i64,
     pub y: i64,

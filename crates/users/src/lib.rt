@@ -9,7 +9,7 @@ ghost use Rattle.edges.specs.held.Ascending.{Asc};
 ghost use Rattle.users.specs.held.Users.{users_in, Halving, Bound, UserAt, Told};
 
 // The number of users of an edge and the two lowest, 65,535 where there is none.
-#[derive(Drop)]
+#[derive(Clone, Copy)]
 pub struct Users {
     pub count: usize,
     pub lowest: usize,

@@ -2,7 +2,6 @@
 pub mod Agree
 pub mod Alls
 pub mod Bools
-pub mod First
 pub mod Front
 pub mod Index
 pub mod Least

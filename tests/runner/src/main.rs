@@ -61,7 +61,7 @@ fn asked() -> Asked {
     asked.count = plain.first().copied().unwrap_or(asked.count);
     asked.seed = plain.get(1).copied().unwrap_or(asked.seed);
     if asked.subject == Subject::Product && !product::is_here() {
-        usage("built without the product's archive: run `rt staticlib checker` first, or ask for --self-check");
+        usage("built without the product's archive: run `tests/archive` first, or ask for --self-check");
     }
     asked
 }

@@ -11,7 +11,7 @@ use Rattle.edges.specs.held.Ascending.{Asc}
 use Rattle.edges.specs.laws.Ascending.{asc_ascending}
 use Rattle.users.specs.EdgeList.{Listed}
 use Rattle.users.specs.held.Users.{users_in, Told}
-use Rattle.users.specs.laws.Words.{told-across}
+use Rattle.users.proofs.laws.Words.{told-across}
 use Rattle.ring.specs.Polygon.{Polygon}
 use Rattle.building.specs.held.Holds.{Arrays, held_tables, held_building}
 use Rattle.service.specs.declared.Refusal.{Refusal}

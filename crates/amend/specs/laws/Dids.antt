@@ -17,7 +17,7 @@ use Rattle.building.specs.held.Holds.{Arrays, held_tables, held_building}
 use Rattle.building.specs.laws.Load.{tables-points}
 use Rattle.service.specs.declared.Refusal.{Refusal}
 use Rattle.service.specs.Service.{State, holding, tables_of, building_of, is_misplaced_of, is_absent, is_beyond_of, refusal, takes, report_of, answer_to, is_accepted_of}
-use Rattle.service.specs.laws.Fresh.{Passed}
+use Rattle.service.proofs.laws.Fresh.{Passed}
 use Rattle.modes.specs.declared.Mode.TheVariants.{Holding}
 use Rattle.desk.specs.declared.Desk.{Desk}
 use Rattle.modes.specs.held.Mode.{holds}

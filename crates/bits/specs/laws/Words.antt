@@ -1,6 +1,6 @@
 -- Several words of n bits: the marks that they hold together, one read, one set, the lowest that is not set, how many are.
 use Prim.Native.Nat.{ℕ, zero, suc, ◌+◌, ◌*◌, ◌/◌, ◌%◌, ◌≤◌, ◌<◌, zero-le}
-use Rattle.std.proofs.Common.{add_assoc, suc-add, suc-mul, zero-mul, zero-add, div-add-mod', add-one, ◌∙◌, length-set}
+use Rattle.std.proofs.Common.{add_assoc, suc-add, suc-mul, zero-mul, zero-add, div-add-mod', add-one, ◌∙◌}
 use Rattle.std.proofs.Math.Nat.{add_comm, add-zero}
 use native.Mathlib.Omega.{arith}
 use Rattle.std.specs.Prelude.{◌≡◌, drop, eqb}
@@ -10,7 +10,7 @@ use Rattle.std.proofs.Math.ListN.{length, get_or, set, length-append, get_or-app
 use Rattle.std.proofs.lemmas.List.{set-append_left}
 use Rattle.std.proofs.Math.Seq.{get_or-append-add}
 use Rattle.whole.specs.Lists.{least_index}
-use Rattle.whole.specs.laws.Index.{index_past, index_within, any_index}
+use Rattle.whole.specs.laws.Index.{index_past, index_within}
 use Rattle.whole.specs.laws.Search.{drop-next, drop_end}
 use Rattle.bits.specs.Lowest.{lowest_bare_of}
 use Rattle.bits.specs.held.Bits.{bits_of, spread, marks_of, sum_of}

@@ -10,14 +10,14 @@ use Rattle.whole.specs.Lists.{given, first, first_given, numbered_from, numbered
 use Rattle.whole.specs.All as A
 use Rattle.whole.specs.All.{All}
 use Rattle.whole.specs.laws.Alls.{all_imp}
-use Rattle.whole.specs.laws.First.{NoneGiven}
+use Rattle.whole.proofs.laws.First.{NoneGiven}
 use Rattle.polygon.specs.declared.Finding.{Finding}
 use Rattle.polygon.specs.declared.Finding.TheVariants.{Sound, Short, Unclosed, Repeated, NoNormal, Crossed}
 use Rattle.space.specs.Space.{Point, places}
 use Rattle.plane.specs.Plane.{largest_axis_of}
 use Rattle.polygon.specs.Ring.{is_short, edges_in, ring_rows, ring_finding, finding_number_of}
 use Rattle.inner.specs.Finding.{finding}
-use Rattle.inner.specs.laws.Checks.{last_checks, sound_exactly}
+use Rattle.inner.proofs.laws.Checks.{last_checks, sound_exactly}
 use Rattle.holes.specs.Holes.{component_of}
 use Rattle.ring.specs.Entries.{is_unclosed, is_repeated, repeated_at}
 use Rattle.ring.specs.Polygon.{Polygon, rings_of, all_rings}

@@ -5,8 +5,8 @@ use Rattle.std.proofs.lemmas.List.Edits.{sets, sets-eq}
 use Rattle.lines.specs.Lines.{lines}
 use Rattle.service.specs.Stream.{answers, served, Answers, stream_computes}
 use Rattle.service.specs.Stream as Stream
-use Rattle.service.specs.laws.Short.{answers-short}
-use Rattle.service.specs.laws.Room.{long_stream, many-lines, narrow-room, answered-stream}
+use Rattle.service.proofs.laws.Short.{answers-short}
+use Rattle.service.proofs.laws.Room.{long_stream, many-lines, narrow-room, answered-stream}
 use Rattle.replies.specs.held.Answered.{Answered}
 
 module _ (stream room : List ℕ) where

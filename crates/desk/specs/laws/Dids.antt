@@ -15,8 +15,8 @@ use Rattle.building.specs.Tables.{Tables, Building}
 use Rattle.building.specs.held.Holds.{Arrays, held_tables, held_building, Sizes, Held}
 use Rattle.service.specs.declared.Refusal.{Refusal}
 use Rattle.service.specs.Service.{State, holding, is_loading_of, is_holding_of, refusal, refusal_number_of, takes, report_of, answer_to, Outcome, outcome, refused, is_accepted_of}
-use Rattle.service.specs.laws.Refusals.{refused-outcome, accepted_outcome}
-use Rattle.service.specs.laws.Fresh.{Passed, passed}
+use Rattle.service.proofs.laws.Refusals.{refused-outcome, accepted_outcome}
+use Rattle.service.proofs.laws.Fresh.{Passed, passed}
 use Rattle.modes.specs.declared.Mode.{Mode}
 use Rattle.modes.specs.declared.Mode.TheVariants.{Nothing, Loading, Holding}
 use Rattle.desk.specs.declared.Desk.{Desk}

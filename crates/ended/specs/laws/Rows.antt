@@ -5,7 +5,7 @@ use Rattle.std.proofs.Common.{sym, ap, ◌∙◌}
 use Rattle.frame.specs.Frame.{end_of_load}
 use Rattle.service.specs.declared.Refusal.TheVariants.{Accepted, Misplaced}
 use Rattle.service.specs.Service.{State, is_malformed, is_misplaced_of, refusal}
-use Rattle.service.specs.laws.Handlers.{of_end}
+use Rattle.service.proofs.laws.Handlers.{of_end}
 use Rattle.desk.specs.declared.Desk.{Desk}
 use Rattle.modes.specs.held.Mode.{loads}
 use Rattle.desk.specs.laws.Rows.{tables, service-loads, not_loading}

@@ -11,7 +11,7 @@ use Rattle.std.proofs.Math.Dec.{ltb}
 use Rattle.std.proofs.Math.ListN.{length, length-drop}
 use Rattle.std.proofs.Math.Seq.{append_snoc}
 use Rattle.hexadecimal.specs.Hex.{is_hex_of, all_hex_of, digit_value_of, number_from, number, signed32, digit, digits, bits32}
-use Rattle.frame.specs.Frame.{begin, point, polygon, end_of_load, move, turn, question, across, broken, Kind, kind_of, kind_named, fits, unsigned, coordinate, numbers, filled, decode}
+use Rattle.frame.specs.Frame.{broken, Kind, kind_of, kind_named, fits, unsigned, coordinate, numbers, filled, decode}
 use Rattle.frame.specs.Encode.{four_each, eight, encode}
 use Rattle.whole.specs.laws.Bools.{and_left, and_right, or_cases}
 use Rattle.hexadecimal.specs.laws.Back.{number_from_append}

@@ -1,5 +1,5 @@
 -- Reading back what was written: frames.
-use Rattle.std.specs.Prelude.{ℕ, suc, ◌+◌, ◌*◌, ◌-◌, ◌%◌, ◌≤◌, ◌<◌, ◌≡◌, Bool, true, false, ◌&&◌, List, [], ◌∷◌, ◌++◌, length, drop, ℤ}
+use Rattle.std.specs.Prelude.{ℕ, suc, ◌*◌, ◌-◌, ◌%◌, ◌≤◌, ◌<◌, ◌≡◌, Bool, true, false, ◌&&◌, List, [], ◌∷◌, ◌++◌, length, drop, ℤ}
 use Rattle.std.proofs.Common.{arith, ap, ap₂, ◌∙◌, le-leb, leb-true, length-append, length-drop}
 use Rattle.std.proofs.Math.Path.{refl}
 use Rattle.whole.specs.laws.Bools.{and_left, and_right}

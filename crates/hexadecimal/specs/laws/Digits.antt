@@ -1,5 +1,5 @@
 -- Laws of the digits of a line: which bytes they are, and the fields that the code reads from them.
-use Rattle.std.specs.Prelude.{ℕ, zero, suc, ◌+◌, ◌*◌, ◌-◌, ◌/◌, ◌%◌, ◌^◌, ◌≤◌, ◌<◌, ◌≡◌, refl, Bool, true, false, cond, ◌&&◌, ◌⊎◌, List, [], ◌∷◌, leb, length, take, drop, get_or}
+use Rattle.std.specs.Prelude.{ℕ, zero, suc, ◌+◌, ◌*◌, ◌-◌, ◌/◌, ◌%◌, ◌^◌, ◌≤◌, ◌<◌, ◌≡◌, refl, Bool, true, false, cond, ◌&&◌, List, [], ◌∷◌, leb, length, take, drop, get_or}
 use native.Mathlib.Omega.{arith}
 use Rattle.std.proofs.Common.{add-one, pow-suc, sym, ap, ◌∙◌, length-drop, drop_of_length-le, take-suc, take_all, get_or-drop, drop-cons, drop-drop}
 use Rattle.std.proofs.Math.Nat.{pow-le-pow_right}

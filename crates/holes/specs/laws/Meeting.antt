@@ -8,7 +8,7 @@ use Rattle.whole.specs.laws.Index.{any-holds, holds-any, two-holds, holds-two}
 use Rattle.plane.specs.Plane.{Spot, Segment, share}
 use Rattle.plane.specs.held.Edges.{spot}
 use Rattle.plane.specs.laws.Common.{CommonPoint, share_is}
-use Rattle.rays.specs.laws.Turned.{share-sym}
+use Rattle.rays.proofs.laws.Turned.{share-sym}
 use Rattle.holes.specs.Holes.{meet, is_shared}
 use Rattle.holes.specs.laws.Some.{any_swap}
 

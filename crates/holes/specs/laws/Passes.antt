@@ -13,7 +13,7 @@ use Rattle.plane.specs.held.Edges.{Ends}
 use Rattle.space.specs.held.Points.{Coords}
 use Rattle.fan.specs.held.Fan.{spot_in}
 use Rattle.rays.specs.laws.Seen.{close_at}
-use Rattle.rays.specs.laws.Counted.{edges-length, edges_at}
+use Rattle.rays.proofs.laws.Counted.{edges-length, edges_at}
 
 -- the edge between two points has coordinates
 pub ends_of : (flat : List ℤ) → Coords flat → (j k a b : ℕ) {e : Segment} → e ≡ (spot_in flat j k a, spot_in flat j k b) → Ends e

@@ -18,8 +18,8 @@ use Rattle.building.specs.laws.Load.{loaded-begun, tables-begun, loaded_point, t
 use Rattle.service.specs.declared.Refusal.{Refusal}
 use Rattle.service.specs.declared.Refusal.TheVariants.{Accepted, Beyond}
 use Rattle.service.specs.Service.{State, loading, tables_of, is_misplaced_of, is_beyond_of, refusal, takes, answer_to, Outcome, refused, is_accepted_of}
-use Rattle.service.specs.laws.Fresh.{Passed}
-use Rattle.service.specs.laws.Handlers.{of-begin}
+use Rattle.service.proofs.laws.Fresh.{Passed}
+use Rattle.service.proofs.laws.Handlers.{of-begin}
 use Rattle.modes.specs.declared.Mode.{Mode}
 use Rattle.modes.specs.declared.Mode.TheVariants.{Nothing, Loading, Holding}
 use Rattle.desk.specs.declared.Desk.{Desk}

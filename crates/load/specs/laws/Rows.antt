@@ -16,7 +16,7 @@ use Rattle.building.specs.held.Holds.{Arrays, held_tables}
 use Rattle.building.specs.laws.Load.{tables-points}
 use Rattle.service.specs.declared.Refusal.TheVariants.{Accepted, Misplaced, Beyond, Full, Taken}
 use Rattle.service.specs.Service.{State, is_malformed, is_misplaced_of, refusal, is_accepted_of}
-use Rattle.service.specs.laws.Handlers.{of_point_lem}
+use Rattle.service.proofs.laws.Handlers.{of_point_lem}
 use Rattle.desk.specs.declared.Desk.{Desk}
 use Rattle.modes.specs.held.Mode.{loads}
 use Rattle.desk.specs.held.Holds.{service, Valid}

@@ -6,7 +6,7 @@ use Rattle.ring.specs.Polygon.{entries_from}
 use Rattle.ring.specs.held.Rings.{polygon_at}
 use Rattle.ring.specs.laws.Owners.{firsts_ordered}
 use Rattle.holes.specs.held.Rings.{Ring}
-use Rattle.inner.specs.laws.Tables.{entries_are}
+use Rattle.inner.proofs.laws.Tables.{entries_are}
 use Rattle.building.specs.declared.Scalars.{Scalars}
 use Rattle.building.specs.held.Holds.{Loaded}
 use Rattle.building.specs.held.Rings.{cut, Stands}

@@ -3,7 +3,7 @@
 use Rattle.std.specs.Prelude.{ℕ, zero, suc, ◌+◌, ◌≤◌, ◌<◌, ◌≡◌, true, ℤ, pos, nat_abs, ◌+ℤ◌, ◌-ℤ◌, ◌*ℤ◌, ◌≤ℤ◌, ◌<ℤ◌}
 use Rattle.std.proofs.Common.{arith, sym, ap, ap₂, ◌∙◌, subst, le→leb, lt→ltb}
 use Rattle.std.specs.Int.Signed.{le_z_yes, lt_z_yes, pos-nat_abs, yes_non_neg}
-use Rattle.whole.specs.laws.Solve.{v, k, ◌⊕◌, ◌⊖◌, ◌⊗◌, ring, ◌≔◌}
+use Rattle.whole.specs.laws.Solve.{k, ◌⊕◌, ◌⊖◌, ◌⊗◌, ring, ◌≔◌}
 use Rattle.whole.specs.laws.Linear.{◌≼◌, ◌⇒◌, lin}
 use Rattle.plane.specs.Plane.{Segment, share}
 use Rattle.plane.specs.laws.Meet.{Meet}

@@ -1,8 +1,8 @@
 -- Two segments that are found to share a point have one in common: the case that they are not on one line.
-use Rattle.std.specs.Prelude.{ℕ, zero, suc, ◌+◌, ◌*◌, ◌<◌, ◌≡◌, refl, false, not, ◌⊎◌, ℤ, pos, negsuc, neg_ℤ, nat_abs, ◌+ℤ◌, ◌-ℤ◌, ◌*ℤ◌}
+use Rattle.std.specs.Prelude.{ℕ, zero, suc, ◌+◌, ◌<◌, ◌≡◌, refl, false, ◌⊎◌, ℤ, pos, negsuc, neg_ℤ, nat_abs, ◌+ℤ◌, ◌-ℤ◌, ◌*ℤ◌}
 use Rattle.std.proofs.Common.{arith, sym, ap, ap₂, ◌∙◌, true≢false, inl, inr, lt-ltb}
 use Rattle.whole.specs.laws.Solve.{k, ◌⊕◌, ◌⊖◌, ◌⊗◌, ⊝◌, ring, ◌≔◌}
-use Rattle.plane.specs.Plane.{Segment, side, same_sign, share}
+use Rattle.plane.specs.Plane.{Segment, side, same_sign}
 use Rattle.plane.specs.laws.Meet.{Meet}
 
 -- x is at or above 0 and y at or below it

@@ -1,7 +1,7 @@
 -- Two segments that have a point in common are found to share one.
 use Prim.Native.Nat.{ℕ, zero, suc, ◌+◌, ◌*◌, ◌-◌, ◌<◌}
 use Rattle.std.proofs.Common.{arith, mul-suc, ap, ◌∙◌, subst, lt-ltb, le-ltb}
-use Rattle.std.specs.Prelude.{◌≡◌, Bool, not, ◌&&◌, T, ℤ, negsuc, neg_ℤ, nat_abs, ◌+ℤ◌, ◌-ℤ◌, ◌*ℤ◌, [], ◌∷◌}
+use Rattle.std.specs.Prelude.{◌≡◌, Bool, ◌&&◌, T, ℤ, negsuc, neg_ℤ, nat_abs, ◌+ℤ◌, ◌-ℤ◌, ◌*ℤ◌, [], ◌∷◌}
 use Rattle.std.proofs.Math.Path.{refl, sym}
 use Rattle.std.proofs.Math.Bool.{true, false}
 use Rattle.std.proofs.Math.IntN.{pos}

@@ -1,14 +1,14 @@
 -- Two neighbours "share more than their common end": the test of Plane says exactly whether they have a point in common that
 -- is not that end.
-use Rattle.std.specs.Prelude.{◌≡◌, true, false, ◌⊎◌, ℕ, ◌+◌, ◌≤◌, ◌<◌, ℤ, pos, negsuc, neg_ℤ, ◌+ℤ◌, ◌-ℤ◌, ◌*ℤ◌, ◌≤ℤ◌, ◌<ℤ◌}
+use Rattle.std.specs.Prelude.{◌≡◌, true, false, ◌⊎◌, ℕ, ℤ, pos, negsuc, neg_ℤ, ◌+ℤ◌, ◌-ℤ◌, ◌*ℤ◌, ◌≤ℤ◌, ◌<ℤ◌}
 use Rattle.std.proofs.Math.Path.{refl, ap₂}
 use Rattle.std.proofs.Common.{sym, ◌∙◌, ap, subst, inl, inr, arith, eqb-true}
 use Rattle.std.proofs.Math.Bool.{◌&&◌}
 use Rattle.std.specs.Int.Signed.{lt_z}
 use Rattle.whole.specs.Lists.{same_z}
-use Rattle.whole.specs.laws.Solve.{E, v, k, ◌⊕◌, ◌⊖◌, ◌⊗◌, ⊝◌, ring, ◌≔◌}
+use Rattle.whole.specs.laws.Solve.{E, k, ◌⊕◌, ◌⊖◌, ◌⊗◌, ⊝◌, ring, ◌≔◌}
 use Rattle.whole.specs.laws.Ring.{combine}
-use Rattle.whole.specs.laws.Linear.{◌≼◌, ◌≺◌, ◌≈◌, never, ◌⇒◌, ◌&◌, lin}
+use Rattle.whole.specs.laws.Linear.{◌≼◌, ◌≺◌, ◌≈◌, never, ◌⇒◌, lin}
 use Rattle.whole.specs.laws.Tests.{three_ways, lt_le, square, mul_nonneg, mul_pos-pos, lt_yes, lt_test}
 use Rattle.plane.specs.Plane.{Spot, turn_off_of, ahead, share_more_of}
 use Rattle.whole.specs.laws.Bools.{and_left, and_right}

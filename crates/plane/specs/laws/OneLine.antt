@@ -1,5 +1,5 @@
 -- Segments on one line whose stretches overlap on both axes have a point in common; with Found: what is found is there.
-use Rattle.std.specs.Prelude.{ℕ, zero, suc, ◌+◌, ◌*◌, ◌-◌, ◌≤◌, ◌<◌, ◌≡◌, refl, Bool, true, false, not, ◌⊎◌, [], ◌∷◌, T, ℤ, pos, negsuc, neg_ℤ, ◌+ℤ◌, ◌-ℤ◌, ◌*ℤ◌}
+use Rattle.std.specs.Prelude.{ℕ, zero, suc, ◌+◌, ◌-◌, ◌≤◌, ◌<◌, ◌≡◌, refl, Bool, true, false, not, ◌⊎◌, [], ◌∷◌, T, ℤ, pos, negsuc, neg_ℤ, ◌+ℤ◌, ◌-ℤ◌, ◌*ℤ◌}
 use Rattle.std.proofs.Common.{arith, add_comm, sym, ap, ◌∙◌, subst, true≢false, inl, inr}
 use Rattle.std.proofs.Math.IntN.{+ℤ_comm, +ℤ_idr}
 use Rattle.std.specs.Int.Signed.{lt_z, lt_z_no}

@@ -4,7 +4,7 @@ use Rattle.std.proofs.Common.{arith, sym, ap, ap₂, ◌∙◌, lt-ltb, le-ltb, 
 use Rattle.std.proofs.Math.Bool.{and_comm, or_comm}
 use Rattle.std.specs.Int.Signed.{lt_z}
 use Rattle.whole.specs.Lists.{same_z}
-use Rattle.whole.specs.laws.Solve.{v, ◌⊕◌, ◌⊖◌, ◌⊗◌, ⊝◌, ring, ◌≔◌}
+use Rattle.whole.specs.laws.Solve.{◌⊕◌, ◌⊖◌, ◌⊗◌, ⊝◌, ring, ◌≔◌}
 use Rattle.whole.specs.laws.Reverse.{back}
 use Rattle.plane.specs.Plane.{Spot, Segment, side, same_sign, under, overlap, share, turn_off_of, ahead, share_more_of}
 

@@ -8,7 +8,7 @@ use Rattle.plane.specs.Plane.{largest_axis_of, plane_computes}
 use Rattle.normal.specs.Normal.{normal}
 use Rattle.polygon.specs.Ring.{finding, ring_computes}
 use Rattle.even.specs.held.Offs.{largest}
-use Rattle.even.specs.laws.Distance.{is_uneven_along}
+use Rattle.even.proofs.laws.Distance.{is_uneven_along}
 
 abbrev place : ℤ → ℤ → ℤ → Point
 place x y z = record { x = x; y = y; z = z }

@@ -21,10 +21,10 @@ use Rattle.ring.specs.laws.Repeated.{repeated_is, repeated-least}
 use Rattle.normal.specs.Normal.{normal, is_zero_of}
 use Rattle.crossing.specs.Crossed.{is_crossed, crossed_at}
 use Rattle.crossing.specs.Position.{Meets}
-use Rattle.crossing.specs.laws.Least.{crossed_is, crossed_least}
+use Rattle.crossing.proofs.laws.Least.{crossed_is, crossed_least}
 use Rattle.even.specs.Even.{is_uneven, uneven_at}
 use Rattle.even.specs.Position.{Off}
-use Rattle.even.specs.laws.Least.{uneven_is, uneven-least}
+use Rattle.even.proofs.laws.Least.{uneven_is, uneven-least}
 
 -- ---- what the position of a ring's finding says
 -- "for 03 the least entry index whose number stood earlier, the closing entry aside; for 05 the least edge index, counted from 0, that

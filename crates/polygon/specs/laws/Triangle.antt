@@ -23,7 +23,7 @@ use Rattle.even.specs.Even.{is_uneven}
 use Rattle.plane.specs.laws.Axes.{axis-x, axis-y, axis_z}
 use Rattle.normal.specs.laws.Sums.{on}
 use Rattle.even.specs.held.Offs.{largest}
-use Rattle.even.specs.laws.Distance.{all-zero, far, upright_own, within}
+use Rattle.even.proofs.laws.Distance.{all-zero, far, upright_own, within}
 use Rattle.normal.specs.laws.Triangle.{round, normal_is, ring_three, places-three, triangle_normal}
 
 -- ---- in the plane that is left: a triangle of some area

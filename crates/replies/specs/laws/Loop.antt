@@ -21,7 +21,7 @@ use Rattle.building.specs.held.Holds.{Arrays, Sizes}
 use Rattle.building.specs.laws.Load.{loaded-begun}
 use Rattle.service.specs.Service.{State, step}
 use Rattle.service.specs.Stream.{run, answers}
-use Rattle.service.specs.laws.Short.{step-short}
+use Rattle.service.proofs.laws.Short.{step-short}
 use Rattle.desk.specs.declared.Desk.{Desk}
 use Rattle.modes.specs.declared.Mode.TheVariants.{Nothing, Loading, Holding}
 use Rattle.modes.specs.held.Mode.{loads, holds}

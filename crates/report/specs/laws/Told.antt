@@ -16,7 +16,7 @@ use Rattle.polygon.specs.declared.Finding.TheVariants.{Sound}
 use Rattle.polygon.specs.Ring.{finding_number_of}
 use Rattle.inner.specs.Finding.{finding, part}
 use Rattle.inner.specs.laws.One.{one-part}
-use Rattle.inner.specs.laws.Kept.{finding-take, part-take}
+use Rattle.inner.proofs.laws.Kept.{finding-take, part-take}
 use Rattle.ring.specs.Polygon.{one}
 use Rattle.space.specs.held.Points.{points_of}
 use Rattle.volume.specs.laws.PartSizes.{part_small}

@@ -1,6 +1,6 @@
 -- A polygon of one ring, and a polygon turned: it lists the same numbers, as many of them, and turned twice it is as it was.
-use Rattle.std.specs.Prelude.{ℕ, ◌+◌, ◌-◌, ◌≡◌, refl, Bool, true, false, ◌||◌, List, [], ◌∷◌, ◌++◌, map, reverse, eqb, length, get_or}
-use Rattle.std.proofs.Common.{arith, sym, ap, ap₂, ◌∙◌, append-nil, length-append}
+use Rattle.std.specs.Prelude.{ℕ, ◌+◌, ◌-◌, ◌≡◌, refl, Bool, ◌||◌, List, [], ◌∷◌, map, reverse, eqb, length, get_or}
+use Rattle.std.proofs.Common.{arith, sym, ap₂, ◌∙◌, append-nil, length-append}
 use Rattle.std.proofs.lemmas.List.{reverse-reverse, length-reverse}
 use Rattle.whole.specs.Lists.{any, lists}
 use Rattle.whole.specs.laws.Reverse.{any-reverse, any_append}

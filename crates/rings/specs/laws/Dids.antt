@@ -17,7 +17,7 @@ use Rattle.building.specs.held.Holds.{Arrays, held_tables, held_building, Loaded
 use Rattle.building.specs.laws.Load.{Room, tables-points, loaded-polygon, tables-polygon}
 use Rattle.service.specs.declared.Refusal.{Refusal}
 use Rattle.service.specs.Service.{State, loading, tables_of, is_misplaced_of, is_absent, refusal, takes, answer_to, Outcome, is_accepted_of}
-use Rattle.service.specs.laws.Fresh.{Passed, known_ring}
+use Rattle.service.proofs.laws.Fresh.{Passed, known_ring}
 use Rattle.modes.specs.declared.Mode.TheVariants.{Loading}
 use Rattle.desk.specs.declared.Desk.{Desk}
 use Rattle.modes.specs.held.Mode.{loads}

@@ -1,5 +1,5 @@
 -- The report's loops over the first n findings and parts.
-use Prim.Native.Nat.{ℕ, zero, suc, ◌+◌, ◌-◌, ◌≤◌, ◌<◌}
+use Prim.Native.Nat.{ℕ, zero, suc, ◌+◌, ◌≤◌, ◌<◌}
 use Rattle.std.proofs.Common.{arith, add-one, zero-add, sym, ◌∙◌, subst, lt-ltb, drop-cons, get_or-take, length-take-le, take-suc, SFits, of_z, to_z, to_z-of_z}
 use Rattle.std.specs.Prelude.{◌≡◌, refl, Bool, List, [], ◌∷◌, ◌++◌, ltb, length, get_or, take, drop, ℤ, pos, ◌+ℤ◌}
 use Rattle.std.proofs.Math.Path.{ap}

@@ -11,7 +11,7 @@ use Rattle.building.specs.laws.Load.{tables-polygons}
 use Rattle.service.specs.declared.Refusal.{Refusal}
 use Rattle.service.specs.declared.Refusal.TheVariants.{Accepted, Misplaced, Absent, Late}
 use Rattle.service.specs.Service.{State, is_malformed, is_misplaced_of, refusal, is_accepted_of}
-use Rattle.service.specs.laws.Handlers.{of_turn_lem}
+use Rattle.service.proofs.laws.Handlers.{of_turn_lem}
 use Rattle.desk.specs.declared.Desk.{Desk}
 use Rattle.modes.specs.held.Mode.{holds}
 use Rattle.desk.specs.held.Holds.{service, Valid}

@@ -6,7 +6,6 @@ use Rattle.std.specs.Prelude.{length, get_or, ℤ}
 use Rattle.whole.specs.Lists.{steps, steps_from, sum_of}
 use Rattle.whole.specs.held.Small.{Small}
 use Rattle.whole.specs.laws.Size.{small_zero, small_add, small_sub, small_mul, small_more}
-use Rattle.whole.specs.All.{more}
 use Rattle.space.specs.Space.{Point, origin, determinant, places}
 use Rattle.volume.specs.Part.{part_about, part}
 use Rattle.space.specs.held.Points.{points_of, Coords, Known, Near}

@@ -3,7 +3,7 @@ use Rattle.std.specs.Prelude.{◌≡◌, refl, Bool, true, false, not, cond, ℕ
 use Rattle.std.proofs.Common.{sym, ◌∙◌, subst, zero-le, le_refl, le_trans, add-le-add, mul-le-mul, lt_of_le_of_lt, le_of_eq, arith, ltb→lt, to_z-of_z}
 use Rattle.std.proofs.Math.IntN.{sub_ℕ}
 use Rattle.std.specs.Int.Signed.{mag, nat_abs-le}
-use Rattle.std.specs.Int.{Width, w64}
+use Rattle.std.specs.Int.{Width}
 use mir.Val.{SFits, hbits, of_z, to_z}
 use Rattle.std.proofs.Math.Facts.{sfits_widen}
 use Rattle.whole.specs.held.Small.{Small}

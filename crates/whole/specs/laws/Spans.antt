@@ -4,7 +4,7 @@ use Rattle.std.proofs.Common.{le_refl, ◌∙◌}
 use native.Mathlib.Omega.{arith}
 use Rattle.std.specs.Prelude.{◌≡◌, length, get_or}
 use Rattle.std.proofs.Math.Path.{refl, ap, ap₂}
-use mathlib.Core.List.{List, [], ◌∷◌, ◌++◌, map}
+use mathlib.Core.List.{List, ◌∷◌, ◌++◌, map}
 use Rattle.whole.specs.held.Spans.{span}
 
 module _ {A : Type 0} where

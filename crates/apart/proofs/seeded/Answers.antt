@@ -1,0 +1,9 @@
+-- `apart::seeded` meets its contract.
+use mathlib.Core.Path.{sym, subst}
+use Rattle.reach.specs.laws.Marks.{words-blank}
+use Rattle.apart.specs.held.Reaching.{Seeded}
+use Rattle.apart.proofs.Lowest.{seed_first}
+use Rattle.apart.proofs.seeded.Goals as goal
+
+pub returns : goal.returns
+returns c = let e = c.mark.ensures in (e.0, subst Seeded (sym e.1) (seed_first _ (words-blank 4)))

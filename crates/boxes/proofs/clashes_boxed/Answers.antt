@@ -1,0 +1,17 @@
+-- `boxes::clashes_boxed` meets its contract. Neighbours do not clash; the others are told by their boxes.
+use native.Mathlib.Omega.{arith}
+use mathlib.Core.Path.{sym, ◌∙◌}
+use mathlib.Core.Logic.{⊎_elim}
+use Prim.Native.Nat.{◌+◌, ◌<◌}
+use borrow.Author.Rules.{rules}
+use Rattle.boxes.proofs.Nearness.{or_end}
+use Rattle.boxes.proofs.Around.{row_past, row-left, row-short}
+use Rattle.boxes.proofs.clashes_boxed.Goals as goal
+
+pub returns-then-end-i : goal.returns-then-end-i
+returns-then-end-i c = let short : c.args.m < c.args.i + 3 = ⊎_elim (λ z. omega arith) (λ z. omega arith) c.end_of-end.ensures.2 in
+    sym (row-short c.requires.free.0 c.requires.free.1 short)
+
+pub returns : goal.returns
+returns c = let e = c.end_of-end in
+    or_end _ _ _ c.clashes_past.ensures (row-left c.requires.free.0 e.result (omega arith) e.ensures.2) ∙ row_past c.requires.free.0 (omega arith)

@@ -1,0 +1,15 @@
+-- `boxes::first_next` meets its contract. The loop: none of the edges passed has with the next one.
+use native.Mathlib.Omega.{arith}
+use mathlib.Core.Path.{sym, ◌∙◌}
+use mathlib.Core.Bool.{false}
+use Prim.Native.Nat.{◌≤◌, ◌-◌}
+use borrow.Author.Rules.{rules}
+use Rattle.boxes.specs.held.Around.{Nexts}
+use Rattle.boxes.proofs.Nexts.{nexts_none, nexts_more, nexts_end, next_found, next-none}
+use Rattle.boxes.proofs.first_next.Given as goal
+
+abbrev pub invariant-loop-i : goal.invariant-loop-i
+invariant-loop-i l = (l.i ≤ l.m) × Nexts l.us l.vs l.m l.i false
+
+abbrev pub decreases-loop-i : goal.decreases-loop-i
+decreases-loop-i l = l.m - l.i

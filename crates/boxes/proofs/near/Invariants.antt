@@ -1,0 +1,16 @@
+-- `boxes::near` meets its contract. The loop: the blocks passed are parted.
+use native.Mathlib.Omega.{arith}
+use mathlib.Core.Path.{◌≡◌}
+use mathlib.Core.Bool.{true, ◌||◌}
+use Prim.Native.Nat.{◌+◌, ◌*◌, ◌-◌, ◌≤◌}
+use borrow.Author.Rules.{rules}
+use borrow.Author.Tests.{not-false}
+use Rattle.boxes.specs.held.Boxes.{Parted}
+use Rattle.boxes.proofs.Nearness.{parted-one, parted-join, parted_where, parted_until}
+use Rattle.boxes.proofs.near.Given as goal
+
+abbrev pub invariant-loop-c : goal.invariant-loop-c
+invariant-loop-c l = (l.b ≤ l.c) × (l.c ≤ 24) × Parted l.lus l.hus l.lvs l.hvs l.i (144 + l.b) (144 + l.c) true
+
+abbrev pub decreases-loop-c : goal.decreases-loop-c
+decreases-loop-c l = l.m - 8 * l.c

@@ -1,0 +1,24 @@
+-- What is left to show of `clear_stamps`.
+use Prim.Native.Nat.{◌-◌, ◌≤◌}
+use mathlib.Core.Path.{◌≡◌, ap, ◌∙◌}
+use native.Mathlib.Omega.{arith}
+use borrow.Author.Rules.{rules}
+use lib.ListN.{length}
+use Rattle.whole.specs.held.Stored.{zeroed}
+use Rattle.whole.specs.laws.Stores.{zeroed-none, zeroed_more, zeroed-length}
+use Rattle.checks.proofs.clear_stamps.Goals as goal
+
+pub loop-p-init : goal.loop-p-init
+loop-p-init c = (c.requires, (search rules, zeroed-none c.args.stamps.now))
+
+pub bounds-stamps-p : goal.bounds-stamps-p
+bounds-stamps-p c = omega (arith, zeroed-length c.args.stamps.now c.loop-p.p c.loop-p.invariant.1.1)
+
+pub loop-p-preserved : goal.loop-p-preserved
+loop-p-preserved c = let lp = c.loop-p in
+    (lp.invariant.0, (search rules, zeroed_more c.args.stamps.now lp.p lp.invariant.1.1))
+
+pub returns : goal.returns
+returns c = let lp = c.loop-p in
+    let e : lp.p ≡ 256 = omega arith in
+    lp.invariant.1.1 ∙ ap (zeroed c.args.stamps.now) e

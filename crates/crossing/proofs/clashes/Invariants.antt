@@ -1,0 +1,17 @@
+-- `crossing::clashes` meets its contract. The loop: what is left of the row tells of the whole row.
+use native.Mathlib.Omega.{arith}
+use mathlib.Core.Path.{◌≡◌, refl, sym, ◌∙◌}
+use Prim.Native.Nat.{◌≤◌, ◌-◌, ◌+◌, ◌<◌}
+use lib.ListN.{drop}
+use borrow.Author.Rules.{rules}
+use Rattle.whole.specs.Lists.{any}
+use Rattle.plane.specs.held.Edges.{edge_at}
+use Rattle.crossing.specs.Crossed.{forbidden}
+use Rattle.crossing.proofs.laws.Pairs.{edges, row_here, row_next, row-end}
+use Rattle.crossing.proofs.clashes.Given as goal
+
+abbrev pub invariant-loop-j : goal.invariant-loop-j
+invariant-loop-j l = (l.i < l.j) × (l.j ≤ l.m) × (any (forbidden l.m (l.i, edge_at l.us l.vs l.i)) (drop l.j (edges l.us l.vs l.m)) ≡ any (forbidden l.m (l.i, edge_at l.us l.vs l.i)) (drop (l.i + 1) (edges l.us l.vs l.m)))
+
+abbrev pub decreases-loop-j : goal.decreases-loop-j
+decreases-loop-j l = l.m - l.j

@@ -1,0 +1,14 @@
+-- `read_question` meets its contract: six digits, the polygon from the third on.
+use borrow.Author.Tests.{ne_eqb}
+use Rattle.frame.specs.Frame.{Kind, fits}
+use Rattle.frame.specs.held.Meaning.{meaning}
+use Rattle.frame.specs.laws.Decoded.{shaped_broken, question_is}
+use Rattle.frame.proofs.read_question.Goals as goal
+
+pub returns-then-line-eq6 : goal.returns-then-line-eq6
+unfolding meaning
+returns-then-line-eq6 c = question_is _ c.if-line-eq6.true c.unsigned.ensures.0
+
+pub returns : goal.returns
+unfolding meaning fits
+returns c = shaped_broken Kind.question _ (ne_eqb _ 6 c.if-line-eq6.false)

@@ -1,0 +1,15 @@
+-- `inner::met::met_in` meets its contract.
+use mathlib.Core.Path.{◌∙◌}
+use borrow.Author.Rules.{rules}
+use Rattle.space.specs.held.Points.{points_of}
+use Rattle.ring.specs.held.Rings.{ring_at}
+use Rattle.inner.proofs.laws.Met.{at_03, at_05}
+use Rattle.inner.proofs.met.met_in.Goals as goal
+
+pub returns-then-number-eq3 : goal.returns-then-number-eq3
+returns-then-number-eq3 c = let a = c.args in
+    c.repeated_in.ensures ∙ at_03 (points_of a.points.now) (ring_at a.entries.now a.starts.now a.q) c.if-number-eq3.true
+
+pub returns : goal.returns
+returns c = let a = c.args in
+    c.crossed_in.ensures ∙ at_05 (points_of a.points.now) (ring_at a.entries.now a.starts.now a.q) c.if-number-eq3.false

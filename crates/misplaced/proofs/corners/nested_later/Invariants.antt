@@ -1,0 +1,17 @@
+-- `misplaced::corners::nested_later` meets its contract. The loop: the rings that are left tell of all.
+use native.Mathlib.Omega.{arith}
+use native.Mathlib.Nat.{le_refl}
+use Prim.Native.Nat.{◌-◌, ◌+◌}
+use mathlib.Core.Path.{◌∙◌, sym}
+use borrow.Author.Rules.{rules}
+use Rattle.fan.specs.held.Fan.{spot_in}
+use Rattle.holes.specs.held.Rings.{spots_at}
+use Rattle.holes.proofs.laws.Corners.{nested}
+use Rattle.holes.specs.laws.Passes.{Rest, rest_all, rest-here, rest-next, rest_end}
+use Rattle.misplaced.proofs.corners.nested_later.Given as goal
+
+abbrev pub invariant-loop-q : goal.invariant-loop-q
+invariant-loop-q l = Rest (spots_at l.points l.j l.k l.entries l.starts) (nested (spot_in l.points l.j l.k 0) (spots_at l.points l.j l.k l.entries l.starts l.p)) (l.p + 1) l.to l.q
+
+abbrev pub decreases-loop-q : goal.decreases-loop-q
+decreases-loop-q l = l.to - l.q

@@ -1,0 +1,13 @@
+-- `polygon::columns::crossed_few` meets its contract. Two columns are filled, and the edges between them are those of the definition.
+use mathlib.Core.Path.{◌∙◌}
+use borrow.Author.Rules.{rules}
+use Rattle.polygon.proofs.Filled.{spread_is, crossed_is}
+use Rattle.polygon.proofs.columns.crossed_few.Goals as goal
+
+pub first_crossed-requires : goal.first_crossed-requires
+first_crossed-requires c = let h = c.requires.in_bounds in
+    spread_is c.requires.coords h.1 h.0 c.fill.ensures c.fill-2.ensures
+
+pub returns : goal.returns
+returns c = let h = c.requires.in_bounds in
+    c.first_crossed.ensures ∙ crossed_is c.requires.coords h.1 h.0 c.fill.ensures c.fill-2.ensures

@@ -1,0 +1,7 @@
+-- `polygon::columns::crossed_in` meets its contract. A ring that does not fit small room has an edge.
+use native.Mathlib.Omega.{arith}
+use borrow.Author.Rules.{rules}
+use Rattle.polygon.proofs.columns.crossed_in.Goals as goal
+
+pub crossed_many-requires : goal.crossed_many-requires
+crossed_many-requires c = record { coords = c.requires.coords; known = c.requires.known; in_bounds = (omega arith, omega (arith, c.requires.known), omega arith, omega arith) }

@@ -1,0 +1,14 @@
+-- `rings::copy_ring` meets its contract.
+use Rattle.rings.specs.laws.Copied.{Copied, copied_none, copied_more, copied_all}
+use borrow.Author.Rules.{rules}
+use Rattle.frame.specs.Frame.{numbers}
+use native.Mathlib.Omega.{arith}
+use Prim.Native.Nat.{◌-◌, ◌≤◌}
+use lib.ListN.{drop}
+use Rattle.rings.proofs.copy_ring.Given as goal
+
+abbrev pub invariant-loop-i : goal.invariant-loop-i
+invariant-loop-i l = (l.i ≤ l.n) × Copied (numbers (drop 2 l.line)) l.initial.entries l.from l.i l.entries
+
+abbrev pub decreases-loop-i : goal.decreases-loop-i
+decreases-loop-i l = l.n - l.i

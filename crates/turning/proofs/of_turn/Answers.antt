@@ -1,0 +1,18 @@
+-- `turning::of_turn` meets its contract.
+use Rattle.turning.specs.laws.Rows.{turn-misplaced, turn-late, turn-absent, turn-accepted}
+use borrow.Author.Tests.{not-true, not-false}
+use mathlib.Core.Path.{sym, ◌∙◌}
+use borrow.Author.Rules.{rules}
+use Rattle.turning.proofs.of_turn.Goals as goal
+
+pub returns-then-not-is_holding : goal.returns-then-not-is_holding
+returns-then-not-is_holding c = turn-misplaced c.args.d c.args.number c.args.p (sym c.is_holding.ensures ∙ c.if-not-is_holding.true)
+
+pub returns-then-number-last : goal.returns-then-number-last
+returns-then-number-last c = turn-late c.args.d c.args.number c.args.p (sym c.is_holding.ensures ∙ c.if-not-is_holding.false) c.if-number-last.true
+
+pub returns-then-n-p : goal.returns-then-n-p
+returns-then-n-p c = turn-absent c.args.d c.args.number c.args.p (sym c.is_holding.ensures ∙ c.if-not-is_holding.false) c.if-number-last.false c.if-n-p.true
+
+pub returns : goal.returns
+returns c = turn-accepted c.args.d c.args.number c.args.p (sym c.is_holding.ensures ∙ c.if-not-is_holding.false) c.if-number-last.false c.if-n-p.false

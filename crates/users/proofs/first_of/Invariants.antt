@@ -1,0 +1,13 @@
+-- `users::first_of` meets its contract. The loop keeps: before lo stand words of edges below e, and from hi on none.
+use Prim.Native.Nat.{◌+◌, ◌-◌, ◌/◌}
+use native.Mathlib.Omega.{arith}
+use Rattle.users.proofs.Search.{halving-up, halving-down, halving_done}
+use Rattle.users.specs.held.Users.{Halving}
+use borrow.Author.Rules.{rules}
+use Rattle.users.proofs.first_of.Given as goal
+
+abbrev pub invariant-loop-lo : goal.invariant-loop-lo
+invariant-loop-lo l = Halving l.words l.e l.lo l.hi
+
+abbrev pub decreases-loop-lo : goal.decreases-loop-lo
+decreases-loop-lo l = l.hi - l.lo

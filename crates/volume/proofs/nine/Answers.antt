@@ -1,0 +1,54 @@
+-- `volume::nine` meets its contract. The formula is quoted, and every product and sum fits by the bounds of the coordinates.
+use mathlib.Core.List.{[]}
+use mir.Syntax.{w64}
+use Rattle.whole.specs.laws.Solve.{v, ◌⊕◌, ◌⊖◌, ◌⊗◌}
+use Rattle.whole.specs.laws.Mach.{asks, yields}
+use Rattle.space.specs.Space.{determinant}
+use Rattle.volume.proofs.Rows.{rows}
+use Rattle.volume.proofs.nine.Goals as goal
+
+pub overflow_mul-result : goal.overflow_mul-result
+overflow_mul-result c = asks w64 ((rows c.requires.first (rows c.requires.second (rows c.requires.third [])))) (v 4 ⊗ v 8) tt
+
+pub overflow_mul-result-2 : goal.overflow_mul-result-2
+overflow_mul-result-2 c = asks w64 ((rows c.requires.first (rows c.requires.second (rows c.requires.third [])))) (v 5 ⊗ v 7) tt
+
+pub overflow_sub-result : goal.overflow_sub-result
+overflow_sub-result c = asks w64 ((rows c.requires.first (rows c.requires.second (rows c.requires.third [])))) (v 4 ⊗ v 8 ⊖ v 5 ⊗ v 7) tt
+
+pub overflow_mul-result-3 : goal.overflow_mul-result-3
+overflow_mul-result-3 c = asks w64 ((rows c.requires.first (rows c.requires.second (rows c.requires.third [])))) (v 0 ⊗ (v 4 ⊗ v 8 ⊖ v 5 ⊗ v 7)) tt
+
+pub overflow_mul-result-4 : goal.overflow_mul-result-4
+overflow_mul-result-4 c = asks w64 ((rows c.requires.first (rows c.requires.second (rows c.requires.third [])))) (v 3 ⊗ v 8) tt
+
+pub overflow_mul-result-5 : goal.overflow_mul-result-5
+overflow_mul-result-5 c = asks w64 ((rows c.requires.first (rows c.requires.second (rows c.requires.third [])))) (v 5 ⊗ v 6) tt
+
+pub overflow_sub-result-2 : goal.overflow_sub-result-2
+overflow_sub-result-2 c = asks w64 ((rows c.requires.first (rows c.requires.second (rows c.requires.third [])))) (v 3 ⊗ v 8 ⊖ v 5 ⊗ v 6) tt
+
+pub overflow_mul-result-6 : goal.overflow_mul-result-6
+overflow_mul-result-6 c = asks w64 ((rows c.requires.first (rows c.requires.second (rows c.requires.third [])))) (v 1 ⊗ (v 3 ⊗ v 8 ⊖ v 5 ⊗ v 6)) tt
+
+pub overflow_sub-result-3 : goal.overflow_sub-result-3
+overflow_sub-result-3 c = asks w64 ((rows c.requires.first (rows c.requires.second (rows c.requires.third [])))) (v 0 ⊗ (v 4 ⊗ v 8 ⊖ v 5 ⊗ v 7) ⊖ v 1 ⊗ (v 3 ⊗ v 8 ⊖ v 5 ⊗ v 6)) tt
+
+pub overflow_mul-result-7 : goal.overflow_mul-result-7
+overflow_mul-result-7 c = asks w64 ((rows c.requires.first (rows c.requires.second (rows c.requires.third [])))) (v 3 ⊗ v 7) tt
+
+pub overflow_mul-result-8 : goal.overflow_mul-result-8
+overflow_mul-result-8 c = asks w64 ((rows c.requires.first (rows c.requires.second (rows c.requires.third [])))) (v 4 ⊗ v 6) tt
+
+pub overflow_sub-result-4 : goal.overflow_sub-result-4
+overflow_sub-result-4 c = asks w64 ((rows c.requires.first (rows c.requires.second (rows c.requires.third [])))) (v 3 ⊗ v 7 ⊖ v 4 ⊗ v 6) tt
+
+pub overflow_mul-result-9 : goal.overflow_mul-result-9
+overflow_mul-result-9 c = asks w64 ((rows c.requires.first (rows c.requires.second (rows c.requires.third [])))) (v 2 ⊗ (v 3 ⊗ v 7 ⊖ v 4 ⊗ v 6)) tt
+
+pub overflow_add-result : goal.overflow_add-result
+overflow_add-result c = asks w64 ((rows c.requires.first (rows c.requires.second (rows c.requires.third [])))) (v 0 ⊗ (v 4 ⊗ v 8 ⊖ v 5 ⊗ v 7) ⊖ v 1 ⊗ (v 3 ⊗ v 8 ⊖ v 5 ⊗ v 6) ⊕ v 2 ⊗ (v 3 ⊗ v 7 ⊖ v 4 ⊗ v 6)) tt
+
+pub returns : goal.returns
+unfolding determinant
+returns c = yields w64 ((rows c.requires.first (rows c.requires.second (rows c.requires.third [])))) (v 0 ⊗ (v 4 ⊗ v 8 ⊖ v 5 ⊗ v 7) ⊖ v 1 ⊗ (v 3 ⊗ v 8 ⊖ v 5 ⊗ v 6) ⊕ v 2 ⊗ (v 3 ⊗ v 7 ⊖ v 4 ⊗ v 6)) tt
