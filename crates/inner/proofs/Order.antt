@@ -8,7 +8,8 @@ use borrow.Author.Tests.{lt-ltb, le-ltb}
 use lib.ListN.{length}
 use Rattle.whole.specs.Lists.{first}
 use Rattle.whole.specs.All.{none, more}
-use Rattle.whole.proofs.laws.First.{rows, first_is, first-none}
+use Rattle.whole.specs.held.Rows.{rows}
+use Rattle.whole.proofs.laws.First.{first_is, first-none}
 use Rattle.space.specs.Space.{Point, places}
 use Rattle.space.specs.declared.Axis.{Axis}
 use Rattle.plane.specs.Plane.{largest_axis_of}
@@ -25,7 +26,8 @@ use Rattle.polygon.specs.laws.Position.{places-length}
 use Rattle.polygon.specs.laws.Rows.{kept_sound, kept_fault}
 use Rattle.inner.specs.Finding.{finding}
 use Rattle.inner.specs.laws.Rows.{rings_finding}
-use Rattle.inner.proofs.laws.Checks.{last_checks, finding-early, finding_late}
+use Rattle.inner.specs.held.LastChecks.{last_checks}
+use Rattle.inner.proofs.laws.Checks.{finding-early, finding_late}
 
 module _ (tolerance : ℕ) (points : List Point) (p : Polygon) where
   abbrev n : Point

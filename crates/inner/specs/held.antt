@@ -1,2 +1,3 @@
 -- How the code's arrays and numbers stand for what the definitions say.
 pub mod Told
+pub mod LastChecks

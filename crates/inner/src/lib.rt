@@ -7,7 +7,7 @@ mod rings;
 
 ghost use Rattle.std.specs.Prelude.{◌≡◌, true, ◌≤◌, ◌<◌, length};
 ghost use Rattle.whole.specs.Lists.{first};
-ghost use Rattle.whole.proofs.laws.First.{rows};
+ghost use Rattle.whole.specs.held.Rows.{rows};
 ghost use Rattle.space.specs.Space.{places};
 ghost use Rattle.space.specs.held.Points.{points_of, Coords, as_point, Near};
 ghost use Rattle.normal.specs.Normal.{normal};
@@ -21,7 +21,7 @@ ghost use Rattle.polygon.specs.held.Findings.{kept_finding};
 ghost use Rattle.polygon.specs.held.Position.{has_position_of};
 ghost use Rattle.inner.specs.Finding.{finding, part};
 ghost use Rattle.inner.specs.laws.Rows.{rings_finding};
-ghost use Rattle.inner.proofs.laws.Checks.{last_checks};
+ghost use Rattle.inner.specs.held.LastChecks.{last_checks};
 
 use polygon::Look;
 use space::Place;

@@ -7,7 +7,7 @@ ghost use Rattle.fan.specs.held.Fan.{spot_in};
 ghost use Rattle.rays.specs.held.Seen.{Plane};
 ghost use Rattle.ring.specs.held.Rings.{ring_at};
 ghost use Rattle.holes.specs.held.Rings.{Ring, Rings, Filled, spots_at};
-ghost use Rattle.holes.proofs.laws.Corners.{stands, nested};
+ghost use Rattle.holes.specs.held.Corners.{stands, nested};
 
 // Whether the first corner of ring p is inside ring q.
 fn stands_in(

@@ -8,7 +8,8 @@ use borrow.Author.Tests.{lt-ltb, le-ltb}
 use lib.ListN.{length}
 use Rattle.whole.specs.All.{none, more}
 use Rattle.whole.specs.Lists.{given, first}
-use Rattle.whole.proofs.laws.First.{rows, first_is, first-none, first_given, first_past}
+use Rattle.whole.specs.held.Rows.{rows}
+use Rattle.whole.proofs.laws.First.{first_is, first-none, first_given, first_past}
 use Rattle.polygon.specs.declared.Finding.{Finding}
 use Rattle.polygon.specs.declared.Finding.TheVariants.{Sound, Short, Unclosed, Repeated, NoNormal, Crossed, Uneven}
 use Rattle.space.specs.Space.{Point, places}

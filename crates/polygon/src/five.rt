@@ -104,7 +104,7 @@ pub fn first_crossed(points: &[i32; 1536], ring: &[u16]) -> usize
     columns::first_crossed(points, ring, axes::largest_axis(n))
 }
 
-// A ring's part of the six-volume, from its normal n: typeof.first.N.
+// A ring's part of the six-volume, from its normal n: first·N.
 pub fn part_of(points: &[i32; 1536], ring: &[u16], n: Place) -> i64
     requires coords { Coords points.now }
     requires known { Known ring.now }

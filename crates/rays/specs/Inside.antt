@@ -1,5 +1,5 @@
 -- Whether a place is inside a ring: document 02 (iv), for check 0F.
-use Rattle.std.specs.Prelude.{ℕ, zero, suc, Bool, true, false, not, ◌&&◌, ◌||◌, List, pos}
+use Rattle.std.specs.Prelude.{ℕ, zero, suc, Bool, false, not, ◌&&◌, ◌||◌, List, pos}
 use Rattle.std.specs.Int.Signed.{lt_z, le_z}
 use Rattle.whole.specs.Lists.{tally}
 use Rattle.plane.specs.Plane.{Spot, Segment, side}

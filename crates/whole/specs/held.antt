@@ -2,3 +2,4 @@
 pub mod Small
 pub mod Spans
 pub mod Stored
+pub mod Rows

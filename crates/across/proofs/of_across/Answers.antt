@@ -1,8 +1,6 @@
 -- `across::of_across` meets its contract.
 use Rattle.across.specs.laws.Rows.{across-misplaced, first_absent, second-absent, equal-absent, across-accepted}
-use borrow.Author.Tests.{not-true, not-false}
 use mathlib.Core.Path.{sym, ◌∙◌}
-use borrow.Author.Rules.{rules}
 use Rattle.across.proofs.of_across.Goals as goal
 
 pub returns-then-not-is_holding : goal.returns-then-not-is_holding

@@ -11,7 +11,6 @@ use Rattle.space.specs.Space.{Point}
 use Rattle.places.specs.Points.{is_far_of}
 use mir.Facts.{to_z-of_z}
 use mathlib.Core.Path.{◌≡◌, refl, sym, ◌∙◌}
-use borrow.Author.Rules.{rules}
 use Rattle.amend.proofs.move_point.Goals as goal
 
 pub move_point-held-requires : goal.move_point-held-requires

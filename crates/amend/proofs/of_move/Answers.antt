@@ -6,9 +6,7 @@ use Rattle.space.specs.held.Points.{points_of}
 use Rattle.space.specs.Space.{Point}
 use Rattle.places.specs.Points.{is_far_of, stands_else_of}
 use mir.Facts.{to_z-of_z}
-use borrow.Author.Tests.{not-true, not-false}
 use mathlib.Core.Path.{sym, ◌∙◌}
-use borrow.Author.Rules.{rules}
 use Rattle.amend.proofs.of_move.Goals as goal
 
 pub returns-then-not-is_holding : goal.returns-then-not-is_holding

@@ -1,8 +1,6 @@
 -- `asking::of_question` meets its contract.
 use Rattle.asking.specs.laws.Rows.{question_misplaced, question-absent, question-accepted}
-use borrow.Author.Tests.{not-true, not-false}
 use mathlib.Core.Path.{sym, ◌∙◌}
-use borrow.Author.Rules.{rules}
 use Rattle.asking.proofs.of_question.Goals as goal
 
 pub returns-then-not-is_holding : goal.returns-then-not-is_holding

@@ -2,7 +2,6 @@
 use native.Mathlib.Omega.{arith}
 use mathlib.Core.Path.{◌∙◌, ap₂}
 use Prim.Native.Nat.{◌+◌, ◌-◌}
-use borrow.Author.Rules.{rules}
 use borrow.Author.Tests.{eq-eqb}
 use Rattle.plane.specs.Plane.{share_more_of}
 use Rattle.crossing.proofs.laws.Pairs.{clash-last, ends_at, ends_same}

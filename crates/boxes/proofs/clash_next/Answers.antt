@@ -2,7 +2,6 @@
 use native.Mathlib.Omega.{arith}
 use mathlib.Core.Path.{◌∙◌, refl, ap₂}
 use Prim.Native.Nat.{◌+◌}
-use borrow.Author.Rules.{rules}
 use Rattle.plane.specs.Plane.{share_more_of}
 use Rattle.crossing.proofs.laws.Pairs.{clash_next_lem, ends_at, ends_same}
 use Rattle.boxes.proofs.clash_next.Goals as goal

@@ -1,8 +1,5 @@
 -- What is left to show of `clash_nexts`.
 use native.Mathlib.Omega.{arith}
-use Prim.Native.Nat.{◌≤◌, ◌-◌}
-use borrow.Author.Rules.{rules}
-use Rattle.boxes.specs.held.Around.{Nexts}
 use Rattle.boxes.proofs.Nexts.{nexts_none, nexts_more, nexts_end}
 use Rattle.boxes.proofs.clash_nexts.Goals as goal
 

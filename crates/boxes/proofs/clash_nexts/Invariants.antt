@@ -1,9 +1,6 @@
 -- `boxes::clash_nexts` meets its contract. The loop: the first i edges are looked at.
-use native.Mathlib.Omega.{arith}
 use Prim.Native.Nat.{◌≤◌, ◌-◌}
-use borrow.Author.Rules.{rules}
 use Rattle.boxes.specs.held.Around.{Nexts}
-use Rattle.boxes.proofs.Nexts.{nexts_none, nexts_more, nexts_end}
 use Rattle.boxes.proofs.clash_nexts.Given as goal
 
 abbrev pub invariant-loop-i : goal.invariant-loop-i

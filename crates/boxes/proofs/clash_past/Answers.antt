@@ -2,7 +2,6 @@
 use native.Mathlib.Omega.{arith}
 use mathlib.Core.Path.{◌∙◌, sym, ap₂}
 use mathlib.Core.Bool.{◌||◌}
-use borrow.Author.Rules.{rules}
 use Rattle.plane.specs.Plane.{share}
 use Rattle.crossing.proofs.laws.Pairs.{clash-other, ends_at, ends_same}
 use Rattle.boxes.proofs.Nearness.{parted-edges}

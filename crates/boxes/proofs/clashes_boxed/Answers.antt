@@ -3,7 +3,6 @@ use native.Mathlib.Omega.{arith}
 use mathlib.Core.Path.{sym, ◌∙◌}
 use mathlib.Core.Logic.{⊎_elim}
 use Prim.Native.Nat.{◌+◌, ◌<◌}
-use borrow.Author.Rules.{rules}
 use Rattle.boxes.proofs.Nearness.{or_end}
 use Rattle.boxes.proofs.Around.{row_past, row-left, row-short}
 use Rattle.boxes.proofs.clashes_boxed.Goals as goal

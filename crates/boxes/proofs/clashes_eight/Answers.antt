@@ -1,6 +1,5 @@
 -- `boxes::clashes_eight` meets its contract. Where all boxes are parted, or all edges lie beside the line, there is nothing to find.
 use native.Mathlib.Omega.{arith}
-use borrow.Author.Rules.{rules}
 use Rattle.boxes.proofs.Nearness.{parted-row, beside-row}
 use Rattle.boxes.proofs.clashes_eight.Goals as goal
 

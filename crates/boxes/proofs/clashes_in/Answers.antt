@@ -1,9 +1,8 @@
 -- What is left to show of `clashes_in`.
 use native.Mathlib.Omega.{arith}
 use mathlib.Core.Path.{◌≡◌, refl, sym, ap, ◌∙◌}
-use Prim.Native.Nat.{ℕ, ◌≤◌, ◌-◌}
+use Prim.Native.Nat.{ℕ}
 use lib.ListN.{drop}
-use borrow.Author.Rules.{rules}
 use Rattle.whole.specs.Lists.{any}
 use Rattle.plane.specs.held.Edges.{edge_at}
 use Rattle.crossing.specs.Crossed.{forbidden}

@@ -1,14 +1,11 @@
 -- `boxes::clashes_in` meets its contract. The loop: what is left of the row tells of all that was asked.
-use native.Mathlib.Omega.{arith}
-use mathlib.Core.Path.{◌≡◌, refl, sym, ap, ◌∙◌}
-use Prim.Native.Nat.{ℕ, ◌≤◌, ◌-◌}
+use mathlib.Core.Path.{◌≡◌}
+use Prim.Native.Nat.{◌≤◌, ◌-◌}
 use lib.ListN.{drop}
-use borrow.Author.Rules.{rules}
 use Rattle.whole.specs.Lists.{any}
 use Rattle.plane.specs.held.Edges.{edge_at}
 use Rattle.crossing.specs.Crossed.{forbidden}
-use Rattle.crossing.proofs.laws.Pairs.{edges, row_here, row_next}
-use Rattle.boxes.proofs.Around.{apart_less}
+use Rattle.crossing.proofs.laws.Pairs.{edges}
 use Rattle.boxes.proofs.clashes_in.Given as goal
 
 abbrev pub invariant-loop-n : goal.invariant-loop-n

@@ -1,7 +1,7 @@
 -- What is left to show of `clashes_past`.
 use native.Mathlib.Omega.{arith}
 use mathlib.Core.Path.{◌≡◌, refl, sym, ap, ◌∙◌}
-use Prim.Native.Nat.{ℕ, ◌≤◌, ◌-◌, ◌+◌, ◌<◌}
+use Prim.Native.Nat.{ℕ}
 use lib.ListN.{drop}
 use Rattle.whole.specs.Lists.{any}
 use Rattle.plane.specs.held.Edges.{edge_at}

@@ -1,16 +1,15 @@
 -- What is left to show of `eight_beside`.
 use native.Mathlib.Omega.{arith}
 use mathlib.Core.Path.{◌≡◌, ◌∙◌, ap}
-use Prim.Native.Nat.{◌+◌, ◌-◌, ◌≤◌}
+use Prim.Native.Nat.{◌+◌}
 use lib.IntN.{ℤ, pos}
 use lib.Signed.{lt_z}
 use mir.Syntax.{w64}
-use borrow.Author.Rules.{rules}
 use Rattle.whole.specs.laws.Size.{call_is}
 use Rattle.plane.specs.Plane.{side}
 use Rattle.plane.specs.laws.Numbers.{spot_back, close_back}
 use Rattle.crossing.proofs.laws.Pairs.{ends_at, ends_same}
-use Rattle.boxes.proofs.Siding.{Held, close_at, held_none, held_more, beside_is, held_all}
+use Rattle.boxes.proofs.Siding.{close_at, held_none, held_more, beside_is, held_all}
 use Rattle.boxes.proofs.eight_beside.Goals as goal
 
 pub loop-n-init : goal.loop-n-init

@@ -1,8 +1,7 @@
 -- What is left to show of `eight_parted`.
 use native.Mathlib.Omega.{arith}
 use mathlib.Core.Path.{◌≡◌, subst}
-use Prim.Native.Nat.{ℕ, ◌+◌, ◌-◌, ◌≤◌}
-use borrow.Author.Rules.{rules}
+use Prim.Native.Nat.{ℕ, ◌+◌}
 use Rattle.boxes.specs.held.Boxes.{Parted}
 use Rattle.boxes.proofs.Nearness.{parted-none, parted-one, parted-join, parted_until}
 use Rattle.boxes.proofs.eight_parted.Goals as goal

@@ -1,10 +1,6 @@
 -- `boxes::eight_parted` meets its contract. The loop: where all holds, the first n boxes are parted.
-use native.Mathlib.Omega.{arith}
-use mathlib.Core.Path.{◌≡◌, subst}
-use Prim.Native.Nat.{ℕ, ◌+◌, ◌-◌, ◌≤◌}
-use borrow.Author.Rules.{rules}
+use Prim.Native.Nat.{◌+◌, ◌-◌, ◌≤◌}
 use Rattle.boxes.specs.held.Boxes.{Parted}
-use Rattle.boxes.proofs.Nearness.{parted-none, parted-one, parted-join, parted_until}
 use Rattle.boxes.proofs.eight_parted.Given as goal
 
 abbrev pub invariant-loop-n : goal.invariant-loop-n

@@ -2,7 +2,6 @@
 use native.Mathlib.Omega.{arith}
 use mathlib.Core.Path.{refl}
 use mathlib.Core.Logic.{inl, inr}
-use borrow.Author.Rules.{rules}
 use Rattle.boxes.proofs.Around.{apart-first, apart_other}
 use Rattle.boxes.proofs.end_of.Goals as goal
 

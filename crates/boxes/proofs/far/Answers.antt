@@ -1,11 +1,7 @@
 -- What is left to show of `far`.
 use native.Mathlib.Omega.{arith}
 use mathlib.Core.Path.{◌≡◌}
-use mathlib.Core.Bool.{true}
-use Prim.Native.Nat.{◌+◌, ◌*◌, ◌-◌, ◌≤◌}
-use borrow.Author.Rules.{rules}
-use borrow.Author.Tests.{not-false}
-use Rattle.boxes.specs.held.Boxes.{Parted}
+use Prim.Native.Nat.{◌+◌}
 use Rattle.boxes.proofs.Nearness.{parted-none, parted-join, parted_where, parted_until}
 use Rattle.boxes.proofs.far.Goals as goal
 

@@ -1,12 +1,7 @@
 -- `boxes::far` meets its contract. The loop: the blocks passed are parted.
-use native.Mathlib.Omega.{arith}
-use mathlib.Core.Path.{◌≡◌}
 use mathlib.Core.Bool.{true}
 use Prim.Native.Nat.{◌+◌, ◌*◌, ◌-◌, ◌≤◌}
-use borrow.Author.Rules.{rules}
-use borrow.Author.Tests.{not-false}
 use Rattle.boxes.specs.held.Boxes.{Parted}
-use Rattle.boxes.proofs.Nearness.{parted-none, parted-join, parted_where, parted_until}
 use Rattle.boxes.proofs.far.Given as goal
 
 abbrev pub invariant-loop-c : goal.invariant-loop-c

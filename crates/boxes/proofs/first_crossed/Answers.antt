@@ -1,5 +1,4 @@
 -- `boxes::first_crossed` meets its contract. Neighbours first; then the boxes are made.
-use borrow.Author.Rules.{rules}
 use Rattle.boxes.proofs.first_crossed.Goals as goal
 
 pub first_past-requires : goal.first_past-requires

@@ -1,7 +1,6 @@
 -- `boxes::first_near` meets its contract. The last and the first, then edges that follow one another.
 use native.Mathlib.Omega.{arith}
 use mathlib.Core.Path.{sym, ◌∙◌}
-use borrow.Author.Rules.{rules}
 use Rattle.boxes.proofs.Nexts.{nexts_false, next-none, near_next, near_last}
 use Rattle.boxes.proofs.first_near.Goals as goal
 

@@ -2,9 +2,6 @@
 use native.Mathlib.Omega.{arith}
 use mathlib.Core.Path.{sym, ◌∙◌}
 use mathlib.Core.Bool.{false}
-use Prim.Native.Nat.{◌≤◌, ◌-◌}
-use borrow.Author.Rules.{rules}
-use Rattle.boxes.specs.held.Around.{Nexts}
 use Rattle.boxes.proofs.Nexts.{nexts_none, nexts_more, nexts_end, next_found, next-none}
 use Rattle.boxes.proofs.first_next.Goals as goal
 

@@ -1,9 +1,7 @@
 -- What is left to show of `first_past`.
 use native.Mathlib.Omega.{arith}
 use mathlib.Core.Path.{sym, ◌∙◌}
-use Prim.Native.Nat.{◌≤◌, ◌-◌}
-use borrow.Author.Rules.{rules}
-use Rattle.crossing.proofs.laws.Pairs.{Clear, clear_none, clear_more, clear-found}
+use Rattle.crossing.proofs.laws.Pairs.{clear_none, clear_more, clear-found}
 use Rattle.boxes.proofs.Nexts.{clear-near}
 use Rattle.boxes.proofs.first_past.Goals as goal
 

@@ -1,5 +1,4 @@
 -- `boxes::lie_beside` meets its contract. Of fewer edges nothing is known.
-use borrow.Author.Rules.{rules}
 use Rattle.boxes.proofs.Siding.{beside_unknown}
 use Rattle.boxes.proofs.lie_beside.Goals as goal
 

@@ -1,6 +1,5 @@
 -- `boxes::next_near` meets its contract. Edges of parted blocks are parted.
 use native.Mathlib.Omega.{arith}
-use borrow.Author.Rules.{rules}
 use Rattle.boxes.proofs.Nearness.{parted-none, parted-blocks}
 use Rattle.boxes.proofs.next_near.Goals as goal
 

@@ -1,7 +1,6 @@
 -- `boxes::off` meets its contract: the side is that of the definition.
 use mathlib.Core.Path.{◌∙◌}
 use mir.Syntax.{w64}
-use borrow.Author.Rules.{rules}
 use Rattle.whole.specs.laws.Size.{call_is}
 use Rattle.plane.specs.Plane.{side}
 use Rattle.plane.specs.laws.Numbers.{spot_back}

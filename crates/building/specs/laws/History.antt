@@ -1,7 +1,7 @@
 -- Correcting a held building step by step gives what its history tells.
 use Prim.Native.Nat.{ℕ, zero, suc, ◌+◌, ◌≤◌, ◌<◌}
 use native.Mathlib.Omega.{arith}
-use Rattle.std.specs.Prelude.{◌≡◌, Bool, not, eqb, length, get_or, set}
+use Rattle.std.specs.Prelude.{◌≡◌, Bool, not, length, get_or, set}
 use Rattle.std.proofs.Math.Path.{refl, ap}
 use Rattle.std.proofs.Common.{◌∙◌, eq-eqb, ne_eqb, zero-add}
 use Rattle.std.proofs.Math.Bool.{true, false, cond}
@@ -33,17 +33,17 @@ module _ {A B : Type 0} (f g : ℕ → A → B) where
 
   module _ (φ : B → B) (m : ℕ) (here : (x : A) → φ (f m x) ≡ g m x) (else' : (i : ℕ) (x : A) → (i ≡ m → ⊥) → f i x ≡ g i x) where
     -- changing number m is mapping by a function that differs there alone
-    pub at-mapFrom : (l : List A) (k j : ℕ) → m ≡ k + j → at j φ (map_from k f l) ≡ map_from k g l
+    pub at-map_from : (l : List A) (k j : ℕ) → m ≡ k + j → at j φ (map_from k f l) ≡ map_from k g l
     unfolding map_from at
-    at-mapFrom [] k j e = refl
-    at-mapFrom (x ∷ l) k zero e =
+    at-map_from [] k j e = refl
+    at-map_from (x ∷ l) k zero e =
         let q : m ≡ k = omega arith in
         let a : φ (f k x) ≡ g k x = rw q at (here x) in
         let r : map_from (suc k) f l ≡ map_from (suc k) g l = map_from-same l (suc k) (λ i y p. else' i y (λ z. omega arith)) in
         rw (a, r)
-    at-mapFrom (x ∷ l) k (suc j) e =
+    at-map_from (x ∷ l) k (suc j) e =
         let a : f k x ≡ g k x = else' k x (λ z. omega arith) in
-        let r : at j φ (map_from (suc k) f l) ≡ map_from (suc k) g l = at-mapFrom l (suc k) j (omega arith) in
+        let r : at j φ (map_from (suc k) f l) ≡ map_from (suc k) g l = at-map_from l (suc k) j (omega arith) in
         rw (a, r)
 
 -- ---- a polygon lists the same numbers turned
@@ -63,7 +63,7 @@ module _ (h : List Correction) (number n : ℕ) where
   unfolding place_of
   move_points p ps =
       set_is_at (map_from 0 (place_of h) ps) n p
-      ∙ at-mapFrom (place_of h) (place_of (move number n p ∷ h)) (λ _. p) n (λ x. rw (eq-eqb n n refl, place_of)) (λ i x z. rw (ne_eqb i n z, place_of)) ps 0 n (omega arith)
+      ∙ at-map_from (place_of h) (place_of (move number n p ∷ h)) (λ _. p) n (λ x. rw (eq-eqb n n refl, place_of)) (λ i x z. rw (ne_eqb i n z, place_of)) ps 0 n (omega arith)
 
   move_stamps : (p : Point) (rs : List Polygon) (k : ℕ)
       → stamp_users number n (map_from k (after_turns h) rs) (map_from k (stamp_of h) rs) ≡ map_from k (stamp_of (move number n p ∷ h)) rs
@@ -80,7 +80,7 @@ module _ (h : List Correction) (number n : ℕ) where
   turn-polygons : (rs : List Polygon) → at n turned_over (map_from 0 (after_turns h) rs) ≡ map_from 0 (after_turns (turn number n ∷ h)) rs
   unfolding after_turns odd_turns
   turn-polygons rs =
-      at-mapFrom (after_turns h) (after_turns (turn number n ∷ h)) turned_over n (λ x. rw (eq-eqb n n refl, after_turns, odd_turns) (go x (odd_turns h n))) (λ i x z. rw (ne_eqb i n z, after_turns, odd_turns)) rs 0 n (omega arith)
+      at-map_from (after_turns h) (after_turns (turn number n ∷ h)) turned_over n (λ x. rw (eq-eqb n n refl, after_turns, odd_turns) (go x (odd_turns h n))) (λ i x z. rw (ne_eqb i n z, after_turns, odd_turns)) rs 0 n (omega arith)
     where
       go : (x : Polygon) (b : Bool) → turned_over (cond b (turned_over x) x) ≡ cond (not b) (turned_over x) x
       go x true = twice-over x
@@ -90,7 +90,7 @@ module _ (h : List Correction) (number n : ℕ) where
   unfolding stamp_of touches number_of
   turn_stamps rs =
       set_is_at (map_from 0 (stamp_of h) rs) n number
-      ∙ at-mapFrom (stamp_of h) (stamp_of (turn number n ∷ h)) (λ _. number) n (λ x. rw (eq-eqb n n refl, stamp_of, touches)) (λ i x z. rw (ne_eqb i n z, stamp_of, touches)) rs 0 n (omega arith)
+      ∙ at-map_from (stamp_of h) (stamp_of (turn number n ∷ h)) (λ _. number) n (λ x. rw (eq-eqb n n refl, stamp_of, touches)) (λ i x z. rw (ne_eqb i n z, stamp_of, touches)) rs 0 n (omega arith)
 
 -- a correction of what the history tells is what the longer history tells
 pub corrects-told : (t : Tables) (h : List Correction) (c : Correction) → corrects c (told t h) ≡ told t (c ∷ h)

@@ -11,7 +11,7 @@ use Rattle.space.specs.Space.{Point, same_place_of}
 use Rattle.space.specs.laws.Laws.{same_place-sym}
 use Rattle.shell.specs.laws.Tabs.{length_at}
 use Rattle.places.specs.Points.{is_far_of, stands, stands_else_of}
-use Rattle.ring.specs.Polygon.{Polygon, one, entries_from, turned_over}
+use Rattle.ring.specs.Polygon.{Polygon, one, turned_over}
 use Rattle.ring.specs.laws.Turned.{entries-one, length-turned}
 use Rattle.building.specs.Tables.{Tables, Building, begun, with_point, with_polygon, entries, moved, turned}
 

@@ -17,7 +17,8 @@ use Rattle.space.specs.Space.{Point, places}
 use Rattle.plane.specs.Plane.{largest_axis_of}
 use Rattle.polygon.specs.Ring.{is_short, edges_in, ring_rows, ring_finding, finding_number_of}
 use Rattle.inner.specs.Finding.{finding}
-use Rattle.inner.proofs.laws.Checks.{last_checks, sound_exactly}
+use Rattle.inner.specs.held.LastChecks.{last_checks}
+use Rattle.inner.proofs.laws.Checks.{sound_exactly}
 use Rattle.holes.specs.Holes.{component_of}
 use Rattle.ring.specs.Entries.{is_unclosed, is_repeated, repeated_at}
 use Rattle.ring.specs.Polygon.{Polygon, rings_of, all_rings}

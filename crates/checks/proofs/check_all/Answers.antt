@@ -7,7 +7,6 @@ use Rattle.whole.specs.laws.Stores.{zeroed-length}
 use Rattle.building.specs.held.Holds.{arrays}
 use Rattle.checks.specs.laws.Check.{checked_found, early-is_broken, none_broken, table-length, did_loaded, built-listed, built-shaped}
 use Rattle.checks.specs.laws.Writes.{table-own, scalars_own, shown_own}
-use borrow.Author.Rules.{rules}
 use Rattle.checks.proofs.check_all.Goals as goal
 
 pub lowest_early-early-requires : goal.lowest_early-early-requires

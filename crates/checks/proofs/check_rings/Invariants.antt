@@ -1,11 +1,6 @@
 -- `checks::check_rings` meets its contract. The loop keeps: the polygons before i are checked.
-use Prim.Native.Nat.{ℕ, ◌-◌, ◌≤◌}
-use mathlib.Core.Path.{◌≡◌, ◌∙◌, subst}
-use native.Mathlib.Omega.{arith}
-use borrow.Author.Rules.{rules}
-use Rattle.building.specs.laws.Rings.{stands_of}
+use Prim.Native.Nat.{◌-◌, ◌≤◌}
 use Rattle.checks.specs.held.Steps.{Checked}
-use Rattle.checks.specs.laws.Steps.{checked-none, checked-findings, checked-parts, checked-more}
 use Rattle.checks.proofs.check_rings.Given as goal
 
 abbrev pub invariant-loop-i : goal.invariant-loop-i

@@ -1,11 +1,8 @@
 -- `checks::clear_stamps` meets its contract. The loop keeps: the stamps before p are 0.
 use Prim.Native.Nat.{◌-◌, ◌≤◌}
-use mathlib.Core.Path.{◌≡◌, ap, ◌∙◌}
-use native.Mathlib.Omega.{arith}
-use borrow.Author.Rules.{rules}
+use mathlib.Core.Path.{◌≡◌}
 use lib.ListN.{length}
 use Rattle.whole.specs.held.Stored.{zeroed}
-use Rattle.whole.specs.laws.Stores.{zeroed-none, zeroed_more, zeroed-length}
 use Rattle.checks.proofs.clear_stamps.Given as goal
 
 abbrev pub invariant-loop-p : goal.invariant-loop-p

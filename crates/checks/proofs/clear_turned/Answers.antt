@@ -1,9 +1,7 @@
 -- What is left to show of `clear_turned`.
-use Prim.Native.Nat.{◌-◌, ◌≤◌}
 use mathlib.Core.Path.{◌≡◌, ap, ◌∙◌}
 use native.Mathlib.Omega.{arith}
 use borrow.Author.Rules.{rules}
-use lib.ListN.{length}
 use Rattle.whole.specs.held.Stored.{zeroed}
 use Rattle.whole.specs.laws.Stores.{zeroed-none, zeroed_more, zeroed-length}
 use Rattle.checks.proofs.clear_turned.Goals as goal

@@ -1,8 +1,5 @@
 -- What is left to show of `lowest_early`.
-use Prim.Native.Nat.{◌-◌}
 use mathlib.Core.Path.{sym, ◌∙◌}
-use borrow.Author.Rules.{rules}
-use Rattle.checks.specs.held.Early.{NoneEarly}
 use Rattle.checks.specs.laws.Check.{early-none, early_more, early_found, early_done}
 use Rattle.checks.proofs.lowest_early.Goals as goal
 

@@ -1,7 +1,6 @@
 -- `crossing::clash` meets its contract. Which pairs are neighbours is told by their numbers.
 use native.Mathlib.Omega.{arith}
 use mathlib.Core.Path.{◌∙◌, ap₂}
-use borrow.Author.Rules.{rules}
 use Rattle.plane.specs.Plane.{share, share_more_of}
 use Rattle.crossing.proofs.laws.Pairs.{clash_next_lem, clash-last, clash-other, ends_at, ends_same}
 use Rattle.crossing.proofs.clash.Goals as goal

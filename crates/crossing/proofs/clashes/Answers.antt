@@ -1,13 +1,7 @@
 -- What is left to show of `clashes`.
 use native.Mathlib.Omega.{arith}
-use mathlib.Core.Path.{◌≡◌, refl, sym, ◌∙◌}
-use Prim.Native.Nat.{◌≤◌, ◌-◌, ◌+◌, ◌<◌}
-use lib.ListN.{drop}
-use borrow.Author.Rules.{rules}
-use Rattle.whole.specs.Lists.{any}
-use Rattle.plane.specs.held.Edges.{edge_at}
-use Rattle.crossing.specs.Crossed.{forbidden}
-use Rattle.crossing.proofs.laws.Pairs.{edges, row_here, row_next, row-end}
+use mathlib.Core.Path.{refl, sym, ◌∙◌}
+use Rattle.crossing.proofs.laws.Pairs.{row_here, row_next, row-end}
 use Rattle.crossing.proofs.clashes.Goals as goal
 
 pub loop-j-init : goal.loop-j-init

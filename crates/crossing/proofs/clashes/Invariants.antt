@@ -1,13 +1,11 @@
 -- `crossing::clashes` meets its contract. The loop: what is left of the row tells of the whole row.
-use native.Mathlib.Omega.{arith}
-use mathlib.Core.Path.{◌≡◌, refl, sym, ◌∙◌}
+use mathlib.Core.Path.{◌≡◌}
 use Prim.Native.Nat.{◌≤◌, ◌-◌, ◌+◌, ◌<◌}
 use lib.ListN.{drop}
-use borrow.Author.Rules.{rules}
 use Rattle.whole.specs.Lists.{any}
 use Rattle.plane.specs.held.Edges.{edge_at}
 use Rattle.crossing.specs.Crossed.{forbidden}
-use Rattle.crossing.proofs.laws.Pairs.{edges, row_here, row_next, row-end}
+use Rattle.crossing.proofs.laws.Pairs.{edges}
 use Rattle.crossing.proofs.clashes.Given as goal
 
 abbrev pub invariant-loop-j : goal.invariant-loop-j

@@ -1,9 +1,7 @@
 -- What is left to show of `first_crossed`.
 use native.Mathlib.Omega.{arith}
 use mathlib.Core.Path.{sym, ◌∙◌}
-use Prim.Native.Nat.{◌≤◌, ◌-◌}
-use borrow.Author.Rules.{rules}
-use Rattle.crossing.proofs.laws.Pairs.{Clear, clear_none, clear_more, clear-found, clear-end}
+use Rattle.crossing.proofs.laws.Pairs.{clear_none, clear_more, clear-found, clear-end}
 use Rattle.crossing.proofs.first_crossed.Goals as goal
 
 pub loop-i-init : goal.loop-i-init

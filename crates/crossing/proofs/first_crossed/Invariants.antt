@@ -1,9 +1,6 @@
 -- `crossing::first_crossed` meets its contract. The loop: no edge passed meets a later one.
-use native.Mathlib.Omega.{arith}
-use mathlib.Core.Path.{sym, ◌∙◌}
 use Prim.Native.Nat.{◌≤◌, ◌-◌}
-use borrow.Author.Rules.{rules}
-use Rattle.crossing.proofs.laws.Pairs.{Clear, clear_none, clear_more, clear-found, clear-end}
+use Rattle.crossing.proofs.laws.Pairs.{Clear}
 use Rattle.crossing.proofs.first_crossed.Given as goal
 
 abbrev pub invariant-loop-i : goal.invariant-loop-i

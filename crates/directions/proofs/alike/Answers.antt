@@ -1,9 +1,6 @@
 -- What is left to show of `alike`.
-use Prim.Native.Nat.{◌≤◌, ◌-◌}
-use mathlib.Core.Path.{◌≡◌, refl, sym, ◌∙◌}
+use mathlib.Core.Path.{refl, sym, ◌∙◌}
 use borrow.Author.Rules.{rules}
-use lib.ListN.{length, drop}
-use Rattle.shell.specs.held.Kept.{alike_in}
 use Rattle.directions.proofs.Now.{alike_skip, alike_hit, alike_end, ends-alike, no_alike}
 use Rattle.directions.proofs.alike.Goals as goal
 

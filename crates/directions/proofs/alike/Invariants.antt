@@ -1,10 +1,8 @@
 -- `directions::alike` meets its contract.
 use Prim.Native.Nat.{◌≤◌, ◌-◌}
-use mathlib.Core.Path.{◌≡◌, refl, sym, ◌∙◌}
-use borrow.Author.Rules.{rules}
+use mathlib.Core.Path.{◌≡◌}
 use lib.ListN.{length, drop}
 use Rattle.shell.specs.held.Kept.{alike_in}
-use Rattle.directions.proofs.Now.{alike_skip, alike_hit, alike_end, ends-alike, no_alike}
 use Rattle.directions.proofs.alike.Given as goal
 
 abbrev pub invariant-loop-i : goal.invariant-loop-i

@@ -3,7 +3,6 @@ use mathlib.Core.Path.{sym, ◌∙◌}
 use native.Mathlib.Omega.{arith}
 use lib.Seq.{length-take-le}
 use Rattle.directions.proofs.Now.{early-now, late_now}
-use borrow.Author.Rules.{rules}
 use Rattle.directions.proofs.shape_now.Goals as goal
 
 pub returns-then-is_early : goal.returns-then-is_early

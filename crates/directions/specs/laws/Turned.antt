@@ -6,7 +6,7 @@ use mathlib.Core.List.{List, [], ◌∷◌, ◌++◌, map, reverse}
 use Rattle.std.proofs.Math.Option
 use Rattle.whole.specs.Lists.{given, first, tally, at, tab}
 use Rattle.shell.specs.declared.Shape.TheVariants.{Whole, Few, Once, Often, Apart, Unlinked}
-use Rattle.ring.specs.Polygon.{Polygon, rings_of, one, all, entries_from, all_rings, turned_over}
+use Rattle.ring.specs.Polygon.{Polygon, rings_of, all, entries_from, all_rings, turned_over}
 use Rattle.ring.specs.held.Rings.{polygon_at, polygons}
 use Rattle.edges.specs.Edges.{edges_of, count, used_once, used_often}
 use Rattle.edges.specs.laws.EdgeLaws.{edges-turned}

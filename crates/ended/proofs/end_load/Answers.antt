@@ -4,7 +4,6 @@ use Rattle.ended.specs.laws.Dids.{did_end}
 use Rattle.desk.specs.laws.Dids.{did_refused}
 use Rattle.frame.specs.Frame.{end_of_load}
 use mathlib.Core.Path.{sym, ◌∙◌}
-use borrow.Author.Rules.{rules}
 use Rattle.ended.proofs.end_load.Goals as goal
 
 pub put_report-at-requires : goal.put_report-at-requires

@@ -1,8 +1,6 @@
 -- `ended::of_end` meets its contract.
 use Rattle.ended.specs.laws.Rows.{end_misplaced, end_accepted}
-use borrow.Author.Tests.{not-true, not-false}
 use mathlib.Core.Path.{sym, ◌∙◌}
-use borrow.Author.Rules.{rules}
 use Rattle.ended.proofs.of_end.Goals as goal
 
 pub returns-then-not-is_loading : goal.returns-then-not-is_loading

@@ -1,6 +1,5 @@
 -- `holes::is_shared` meets its contract. The plane is that of the two coordinates that the axis leaves.
 use mathlib.Core.Path.{◌∙◌}
-use borrow.Author.Rules.{rules}
 use Rattle.holes.specs.laws.Polygons.{in_plane, shared-tells}
 use Rattle.holes.proofs.is_shared.Goals as goal
 

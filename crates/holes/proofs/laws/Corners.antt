@@ -14,6 +14,7 @@ use Rattle.plane.specs.Plane.{Spot, share}
 use Rattle.rays.specs.Inside.{inside}
 use Rattle.rays.proofs.laws.Parity.{path_inside}
 use Rattle.holes.specs.Holes.{meet, is_shared, is_inside, is_nested, is_opposite, is_misplaced_of}
+use Rattle.holes.specs.held.Corners.{stands, nested}
 use Rattle.holes.specs.laws.Some.{any_agree}
 use Rattle.holes.specs.laws.Meeting.{meet-sym}
 
@@ -56,44 +57,37 @@ module _ {s : List Spot} (c : Closed s) where
 
 -- ---- 0F, where 0E passed: one corner a ring, here the first
 module _ (d : Spot) where
-  -- the first corner of r is inside s
-  abbrev pub stands : List Spot → List Spot → Bool
-  stands r s = inside (get_or r 0 d) (steps s)
-
-  abbrev pub nested : List Spot → List Spot → Bool
-  nested r s = stands r s || stands s r
-
-  inside_is : {r s : List Spot} → Closed r → Closed s → meet r s ≡ false → is_inside r s ≡ stands r s
+  inside_is : {r s : List Spot} → Closed r → Closed s → meet r s ≡ false → is_inside r s ≡ stands d r s
   inside_is (closed {a = p} {l = path} f) c h = first_tells c p path h
 
-  nested_is : {r s : List Spot} → Closed r → Closed s → meet r s ≡ false → is_nested r s ≡ nested r s
+  nested_is : {r s : List Spot} → Closed r → Closed s → meet r s ≡ false → is_nested r s ≡ nested d r s
   unfolding is_nested
   nested_is {r} {s} c e h = ap₂ ◌||◌ (inside_is c e h) (inside_is e c (meet-sym s r ∙ h))
 
   -- inner rings that share no point with the outer one, and none with one another
   outside_tells : {outer : List Spot} {inner : List (List Spot)} → Closed outer → All Closed inner → any (meet outer) inner ≡ false
-      → any (λ r. not (is_inside r outer)) inner ≡ any (λ r. not (stands r outer)) inner
-  outside_tells {outer} {inner} c cs h = any_agree (λ r. not (is_inside r outer)) (λ r. not (stands r outer)) (go cs (any_none (meet outer) inner h))
+      → any (λ r. not (is_inside r outer)) inner ≡ any (λ r. not (stands d r outer)) inner
+  outside_tells {outer} {inner} c cs h = any_agree (λ r. not (is_inside r outer)) (λ r. not (stands d r outer)) (go cs (any_none (meet outer) inner h))
     where
-      go : {l : List (List Spot)} → All Closed l → All (λ (r : List Spot). meet outer r ≡ false) l → All (λ (r : List Spot). not (is_inside r outer) ≡ not (stands r outer)) l
+      go : {l : List (List Spot)} → All Closed l → All (λ (r : List Spot). meet outer r ≡ false) l → All (λ (r : List Spot). not (is_inside r outer) ≡ not (stands d r outer)) l
       go none none = none
       go (more {x = r} k ks) (more e es) = more (ap not (inside_is k c (meet-sym r outer ∙ e))) (go ks es)
 
-  nested_tells : {inner : List (List Spot)} → All Closed inner → any_two meet inner ≡ false → any_two is_nested inner ≡ any_two nested inner
+  nested_tells : {inner : List (List Spot)} → All Closed inner → any_two meet inner ≡ false → any_two is_nested inner ≡ any_two (nested d) inner
   unfolding any_two
   nested_tells none h = refl
   nested_tells (more {x = r} {l = l} k ks) h =
       let w = two-parts meet r l h in
       any_two_or is_nested r l
-      ∙ ap₂ ◌||◌ (any_agree (is_nested r) (nested r) (go ks (any_none (meet r) l w.0))) (nested_tells ks w.1)
-      ∙ sym (any_two_or nested r l)
+      ∙ ap₂ ◌||◌ (any_agree (is_nested r) (nested d r) (go ks (any_none (meet r) l w.0))) (nested_tells ks w.1)
+      ∙ sym (any_two_or (nested d) r l)
     where
-      go : {l : List (List Spot)} → All Closed l → All (λ (s : List Spot). meet r s ≡ false) l → All (λ (s : List Spot). is_nested r s ≡ nested r s) l
+      go : {l : List (List Spot)} → All Closed l → All (λ (s : List Spot). meet r s ≡ false) l → All (λ (s : List Spot). is_nested r s ≡ nested d r s) l
       go none none = none
       go (more c cs) (more e es) = more (nested_is k c e) (go cs es)
 
   pub corners-tell : {outer : List Spot} {inner : List (List Spot)} → Closed outer → All Closed inner → is_shared (outer ∷ inner) ≡ false → (c : ℤ) (cs : List ℤ)
-      → is_misplaced_of outer inner c cs ≡ (any (λ r. not (stands r outer)) inner || any_two nested inner || any (λ d. not (is_opposite c d)) cs)
+      → is_misplaced_of outer inner c cs ≡ (any (λ r. not (stands d r outer)) inner || any_two (nested d) inner || any (λ d. not (is_opposite c d)) cs)
   unfolding is_misplaced_of is_shared
   corners-tell {outer} {inner} k ks h c cs =
       let w = two-parts meet outer inner h in

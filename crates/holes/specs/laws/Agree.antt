@@ -3,7 +3,7 @@ use Rattle.std.specs.Prelude.{ℕ, ◌≡◌, Bool, List, map, ℤ}
 use Rattle.whole.specs.laws.Agree.{agree}
 use Rattle.space.specs.declared.Axis.{Axis}
 use Rattle.space.specs.held.Points.{points_of}
-use Rattle.ring.specs.Polygon.{Polygon, rings_of}
+use Rattle.ring.specs.Polygon.{rings_of}
 use Rattle.ring.specs.held.Rings.{polygon_of}
 use Rattle.holes.specs.Holes.{seen, is_shared}
 

@@ -4,7 +4,7 @@ use native.Mathlib.Omega.{arith}
 use Prim.Native.Nat.{◌≤◌}
 use mathlib.Core.Path.{◌≡◌, sym, ap, ◌∙◌}
 use mathlib.Core.Bool.{false}
-use mathlib.Core.List.{List, map}
+use mathlib.Core.List.{map}
 use lib.ListN.{length, get_or}
 use Rattle.space.specs.declared.Axis.{Axis}
 use Rattle.space.specs.Space.{Point, places}
@@ -14,7 +14,7 @@ use Rattle.normal.specs.Normal.{normal}
 use Rattle.normal.specs.laws.Sizes.{normal-near}
 use Rattle.plane.specs.Plane.{largest_axis_of}
 use Rattle.even.specs.Even.{is_uneven, uneven_at}
-use Rattle.ring.specs.Polygon.{Polygon, rings_of, entries_from}
+use Rattle.ring.specs.Polygon.{rings_of, entries_from}
 use Rattle.ring.specs.held.Rings.{polygon_of}
 use Rattle.holes.specs.Holes.{seen, component, component_of, is_shared, is_misplaced_of}
 use Rattle.inner.proofs.laws.Tables.{order, start-few, entries-count, all-filled, all_closed}

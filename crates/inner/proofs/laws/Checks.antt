@@ -2,23 +2,23 @@
 use Prim.Native.Nat.{ℕ, zero, suc, ◌+◌, ◌≤◌, ◌<◌}
 use Rattle.std.proofs.Common.{zero-add, sym, ◌∙◌, subst, true≢false, inl, inr}
 use native.Mathlib.Omega.{arith}
-use Rattle.std.specs.Prelude.{◌≡◌, Bool, true, false, List, [], ◌∷◌, ◌++◌, map, ◌⊎◌, length, get_or, take}
+use Rattle.std.specs.Prelude.{◌≡◌, Bool, true, false, List, [], ◌∷◌, ◌++◌, ◌⊎◌, length, get_or, take}
 use Rattle.std.proofs.Math.Path.{refl, ap}
 use Rattle.whole.specs.Lists.{given, first, any, any_two}
 use Rattle.whole.specs.All.{All}
-use Rattle.whole.proofs.laws.First.{rows, NoneGiven, row-exactly, none-exactly, distinct_of, Distinct}
+use Rattle.whole.specs.held.Rows.{rows}
+use Rattle.whole.proofs.laws.First.{NoneGiven, row-exactly, none-exactly, distinct_of, Distinct}
 use Rattle.space.specs.Space.{Point, places}
-use Rattle.plane.specs.Plane.{largest_axis_of}
 use Rattle.ring.specs.Polygon.{Polygon, rings_of, entries_from, all}
 use Rattle.normal.specs.Normal.{normal}
-use Rattle.even.specs.Even.{is_uneven, uneven_at}
-use Rattle.holes.specs.Holes.{seen, component, component_of, is_shared, is_misplaced_of}
+use Rattle.even.specs.Even.{uneven_at}
 use Rattle.polygon.specs.declared.Finding.{Finding}
 use Rattle.polygon.specs.declared.Finding.TheVariants.{Sound, Short, Unclosed, Repeated, NoNormal, Crossed, Uneven, Shared, Misplaced}
 use Rattle.polygon.specs.Ring.{ring_rows, ring_finding, finding_number_of, finding_position_of}
 use Rattle.polygon.specs.held.Position.{has_position_of}
 use Rattle.polygon.specs.laws.Rows.{first-after, first-left, first_taken, sound_or}
 use Rattle.inner.specs.Finding.{later, rings_rows, finding}
+use Rattle.inner.specs.held.LastChecks.{last_checks}
 use Rattle.inner.specs.laws.Rows.{rings_finding, rings-others, rings-at, ring_passes, ring_fails, none_fails, all_pass, later-number, later_fault}
 
 -- ---- what the rings show by 01 to 05 is numbered so
@@ -46,17 +46,7 @@ rings_few points before (r ∷ rs) = go (sound_or (ring_finding points r)) (ring
         subst (λ (f : Finding). finding_number_of f ≤ 5) (sym (ring_fails points before r rs h))
         (subst (λ (n : ℕ). n ≤ 5) (sym (later-number before (ring_finding points r))) (ring_few points r))
 
--- ---- 06, 0E and 0F, each with whether it fails
-unfoldable pub last_checks : ℕ → List Point → Polygon → List (Bool × Finding)
-last_checks tolerance points p =
-    let n = normal (places points p.outer) in
-    let axis = largest_axis_of n in
-    let ps = places points (entries_from p) in
-    (is_uneven tolerance n ps, Uneven (uneven_at tolerance n ps))
-    ∷ (is_shared (map (seen axis points) (rings_of p)), Shared)
-    ∷ (is_misplaced_of (seen axis points p.outer) (map (seen axis points) p.inner) (component axis n) (map (component_of axis points) p.inner), Misplaced)
-    ∷ []
-
+-- ---- the last checks: 06, 0E and 0F
 module _ (tolerance : ℕ) (points : List Point) (p : Polygon) where
   abbrev last : List (Bool × Finding)
   last = last_checks tolerance points p

@@ -8,7 +8,7 @@ use Rattle.whole.specs.Lists.{given, first}
 use Rattle.whole.specs.Least.{Least}
 use Rattle.whole.specs.All as all
 use Rattle.whole.specs.All.{All}
-use Rattle.whole.proofs.laws.First.{rows}
+use Rattle.whole.specs.held.Rows.{rows}
 use Rattle.space.specs.Space.{Point, places}
 use Rattle.plane.specs.Plane.{largest_axis_of}
 use Rattle.ring.specs.Polygon.{Polygon, rings_of, entries_from, all}
@@ -30,7 +30,8 @@ use Rattle.polygon.specs.laws.Rows.{first-after, first_taken, sound_or}
 use Rattle.inner.specs.Finding.{later, finding}
 use Rattle.inner.specs.Position.{Placed, Position}
 use Rattle.inner.specs.laws.Rows.{later-number, ring_fails, none_fails}
-use Rattle.inner.proofs.laws.Checks.{rings_few, last_checks, in_ring, finding_late}
+use Rattle.inner.specs.held.LastChecks.{last_checks}
+use Rattle.inner.proofs.laws.Checks.{rings_few, in_ring, finding_late}
 
 -- ---- positions in a later ring
 later_adds : (before : ℕ) (f : Finding) → has_position_of f ≡ true → finding_position_of (later before f) ≡ before + finding_position_of f

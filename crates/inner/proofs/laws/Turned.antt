@@ -9,7 +9,7 @@ use Rattle.whole.specs.Lists.{given, first, any, steps, sum_of}
 use Rattle.whole.specs.All as all
 use Rattle.whole.specs.All.{All}
 use Rattle.whole.specs.laws.Alls.{all_imp}
-use Rattle.whole.proofs.laws.First.{rows}
+use Rattle.whole.specs.held.Rows.{rows}
 use Rattle.whole.specs.laws.Reverse.{any-reverse}
 use Rattle.whole.specs.laws.Solve.{◌⊕◌, ⊝◌, ring, ◌≔◌}
 use Rattle.space.specs.declared.Axis.{Axis}
@@ -35,7 +35,8 @@ use Rattle.polygon.specs.laws.TurnFinding.{opposite, map-reverse, here, turned-n
 use Rattle.inner.proofs.laws.Kept.{places_append}
 use Rattle.inner.specs.Finding.{rings_rows, finding, part}
 use Rattle.inner.specs.laws.Rows.{rings_finding, ring_passes, ring_fails, all_pass, later-number, fault_number, number_fault}
-use Rattle.inner.proofs.laws.Checks.{last_checks, finding-early, finding_late}
+use Rattle.inner.specs.held.LastChecks.{last_checks}
+use Rattle.inner.proofs.laws.Checks.{finding-early, finding_late}
 
 -- ---- 01 to 05
 -- a ring that passes passes when it is turned

@@ -5,7 +5,6 @@ use Prim.Native.Nat.{ℕ}
 use mathlib.Core.Path.{◌≡◌, sym, ap, ◌∙◌}
 use mathlib.Core.List.{List}
 use Rattle.whole.specs.Lists.{sum_of}
-use Rattle.space.specs.Space.{Point}
 use Rattle.space.specs.held.Points.{points_of}
 use Rattle.ring.specs.Polygon.{Polygon, rings_of}
 use Rattle.ring.specs.held.Rings.{polygon_of}

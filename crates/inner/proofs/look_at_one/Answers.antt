@@ -1,6 +1,5 @@
 -- `inner::look_at_one` meets its contract. A polygon of one ring has that ring's finding and part.
 use mathlib.Core.Path.{◌∙◌, sym, ap}
-use borrow.Author.Rules.{rules}
 use Rattle.space.specs.held.Points.{points_of}
 use Rattle.ring.specs.held.Rings.{ring_at}
 use Rattle.polygon.specs.held.Findings.{kept_finding}

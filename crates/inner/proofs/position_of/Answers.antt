@@ -2,14 +2,13 @@
 use native.Mathlib.Nat.{le_refl}
 use Prim.Native.Nat.{◌-◌, ◌≤◌}
 use mathlib.Core.Path.{◌≡◌, sym, ap, ◌∙◌}
-use mathlib.Core.List.{List}
 use lib.ListN.{length}
 use Rattle.space.specs.Space.{Point, places}
 use Rattle.space.specs.held.Points.{points_of}
 use Rattle.space.specs.laws.Sizes.{near_same}
 use Rattle.normal.specs.laws.Sizes.{normal-near}
 use Rattle.even.specs.Even.{uneven_at}
-use Rattle.ring.specs.Polygon.{Polygon, entries_from}
+use Rattle.ring.specs.Polygon.{entries_from}
 use Rattle.ring.specs.held.Rings.{ring_at, polygon_of}
 use Rattle.inner.specs.Finding.{finding}
 use Rattle.whole.specs.held.Spans.{span}

@@ -4,7 +4,6 @@ use Rattle.frame.specs.Frame.{begin}
 use Rattle.desk.specs.held.Holds.{service, does}
 use Rattle.load.specs.held.Load.{unchained}
 use Rattle.load.specs.laws.Dids.{did_points, did_begin, did_begin-beyond}
-use borrow.Author.Rules.{rules}
 use Rattle.load.proofs.begin.Goals as goal
 
 pub returns-then-tolerance-gt1000 : goal.returns-then-tolerance-gt1000

@@ -2,7 +2,6 @@
 use mathlib.Core.Path.{sym, ap, ◌∙◌}
 use Rattle.modes.specs.declared.Mode.{Mode}
 use Rattle.load.specs.held.Load.{unchained}
-use borrow.Author.Rules.{rules}
 use Rattle.load.proofs.clear_chains.Goals as goal
 
 pub returns-in-Nothing : goal.returns-in-Nothing

@@ -12,7 +12,6 @@ use Rattle.shell.specs.declared.Shape.TheVariants.{Whole}
 use Rattle.places.specs.held.Places.{point3, placed}
 use Rattle.taken.specs.held.Chains.{Chained, linked}
 use Rattle.taken.specs.laws.Chains.{chained-none, chained_more}
-use Rattle.building.specs.Tables.{loaded}
 use Rattle.building.specs.held.Holds.{Arrays, held_tables, held_building, Loaded}
 use Rattle.building.specs.laws.Load.{loaded-begun, tables-begun, loaded_point, tables_point}
 use Rattle.service.specs.declared.Refusal.{Refusal}

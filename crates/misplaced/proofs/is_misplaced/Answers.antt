@@ -5,7 +5,6 @@ use mathlib.Core.Path.{◌∙◌, sym, ap, subst}
 use mathlib.Core.Bool.{not}
 use lib.IntN.{ℤ}
 use mir.Syntax.{w64}
-use borrow.Author.Rules.{rules}
 use Rattle.whole.specs.Lists.{any, any_two}
 use Rattle.whole.specs.held.Small.{Small}
 use Rattle.whole.specs.held.Spans.{span}
@@ -15,7 +14,7 @@ use Rattle.fan.specs.held.Fan.{spot_in}
 use Rattle.ring.specs.held.Rings.{ring_at}
 use Rattle.holes.specs.Holes.{component, component_of, is_opposite}
 use Rattle.holes.specs.held.Rings.{spots_at}
-use Rattle.holes.proofs.laws.Corners.{nested}
+use Rattle.holes.specs.held.Corners.{nested}
 use Rattle.holes.specs.laws.Tables.{rings-from, filled-from}
 use Rattle.holes.specs.laws.Polygons.{in_plane}
 use Rattle.misplaced.specs.laws.Parts.{misplaced_tells, component_small, or_one, or_two, or_three}

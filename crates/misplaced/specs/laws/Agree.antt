@@ -4,7 +4,6 @@ use Rattle.whole.specs.laws.Agree.{agree}
 use Rattle.space.specs.declared.Axis.{Axis}
 use Rattle.space.specs.declared.Place.{Place}
 use Rattle.space.specs.held.Points.{points_of, as_point}
-use Rattle.ring.specs.Polygon.{Polygon}
 use Rattle.ring.specs.held.Rings.{polygon_of}
 use Rattle.holes.specs.Holes.{seen, component, component_of, is_misplaced_of}
 

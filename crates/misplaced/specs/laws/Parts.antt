@@ -22,7 +22,8 @@ use Rattle.ring.specs.Polygon.{Polygon, rings_of}
 use Rattle.ring.specs.held.Rings.{ring_at, polygon_of}
 use Rattle.holes.specs.Holes.{seen, component, component_of, is_shared, is_opposite, is_misplaced_of}
 use Rattle.holes.specs.held.Rings.{Rings, Filled, Closings, spots_at}
-use Rattle.holes.proofs.laws.Corners.{Closed, closed, stands, nested, corners-tell}
+use Rattle.holes.specs.held.Corners.{stands, nested}
+use Rattle.holes.proofs.laws.Corners.{Closed, closed, corners-tell}
 use Rattle.holes.specs.laws.Polygons.{outer-seen, inner-seen, rings-seen}
 use Rattle.holes.specs.laws.Passes.{span-next}
 

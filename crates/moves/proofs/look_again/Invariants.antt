@@ -1,11 +1,6 @@
 -- `moves::look_again` meets its contract. The loop keeps: the polygons before p are looked at again, and no other.
-use Prim.Native.Nat.{ℕ, ◌-◌, ◌≤◌}
-use mathlib.Core.Path.{◌≡◌, ◌∙◌, subst}
-use native.Mathlib.Omega.{arith}
-use borrow.Author.Rules.{rules}
+use Prim.Native.Nat.{◌-◌, ◌≤◌}
 use Rattle.moves.specs.held.Steps.{Looked}
-use Rattle.moves.specs.laws.Steps.{looked_none, looked-stamps, looked-findings, looked-parts}
-use Rattle.moves.specs.laws.Spans.{looked-joined}
 use Rattle.moves.proofs.look_again.Given as goal
 
 abbrev pub invariant-loop-p : goal.invariant-loop-p

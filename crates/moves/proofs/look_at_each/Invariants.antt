@@ -1,12 +1,6 @@
 -- `moves::look_at_each` meets its contract. The loop keeps: the polygons of the span before p are looked at again, and no other.
-use Prim.Native.Nat.{◌+◌, ℕ, ◌-◌, ◌≤◌}
-use mathlib.Core.Path.{◌≡◌, ◌∙◌, subst}
-use native.Mathlib.Omega.{arith}
-use borrow.Author.Rules.{rules}
-use Rattle.building.specs.laws.Rings.{stands_of}
-use Rattle.moves.specs.laws.Rings.{span_of}
+use Prim.Native.Nat.{◌-◌, ◌≤◌}
 use Rattle.moves.specs.held.Steps.{LookedFrom}
-use Rattle.moves.specs.laws.Spans.{looked-from-none, from-stamps, from-findings, from_parts, looked-from-more}
 use Rattle.moves.proofs.look_at_each.Given as goal
 
 abbrev pub invariant-loop-p : goal.invariant-loop-p

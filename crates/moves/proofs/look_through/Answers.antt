@@ -1,6 +1,5 @@
 -- `moves::look_through` meets its contract: where the span's entries do not list the point, no ring of it does.
 use mathlib.Core.Path.{sym, ◌∙◌}
-use borrow.Author.Rules.{rules}
 use Rattle.moves.specs.laws.Rings.{span_of}
 use Rattle.moves.specs.laws.Spans.{none-listed, looked-from-same}
 use Rattle.moves.proofs.look_through.Goals as goal

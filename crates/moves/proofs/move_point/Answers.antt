@@ -7,7 +7,6 @@ use Rattle.places.specs.held.Places.{point3, placed}
 use Rattle.places.specs.laws.Near.{near-place, near-bits}
 use Rattle.building.specs.held.Holds.{arrays, Loaded}
 use Rattle.moves.proofs.laws.Moved.{moved-loaded, did_moved}
-use borrow.Author.Rules.{rules}
 use Rattle.moves.proofs.move_point.Goals as goal
 
 pub look_again-requires : goal.look_again-requires

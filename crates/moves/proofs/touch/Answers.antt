@@ -2,7 +2,6 @@
 use mathlib.Core.Path.{sym, ◌∙◌}
 use Rattle.moves.specs.laws.Rings.{lists-entries}
 use Rattle.moves.specs.laws.Steps.{touched-yes, touched-no}
-use borrow.Author.Rules.{rules}
 use Rattle.moves.proofs.touch.Goals as goal
 
 pub uses-requires : goal.uses-requires

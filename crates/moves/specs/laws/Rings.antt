@@ -1,11 +1,10 @@
 -- The entries of a span of polygons.
-use Rattle.std.specs.Prelude.{ℕ, ◌+◌, ◌-◌, ◌≤◌, ◌<◌, ◌≡◌, List, get_or, ℤ}
-use Rattle.std.proofs.Common.{le_refl, arith, sym, ap, ◌∙◌}
+use Rattle.std.specs.Prelude.{ℕ, ◌+◌, ◌≤◌, ◌≡◌, List, get_or, ℤ}
+use Rattle.std.proofs.Common.{le_refl, arith, ap}
 use Rattle.whole.specs.Lists.{lists}
 use Rattle.ring.specs.Polygon.{entries_from}
 use Rattle.ring.specs.held.Rings.{polygon_at}
 use Rattle.ring.specs.laws.Owners.{firsts_ordered}
-use Rattle.holes.specs.held.Rings.{Ring}
 use Rattle.inner.proofs.laws.Tables.{entries_are}
 use Rattle.building.specs.declared.Scalars.{Scalars}
 use Rattle.building.specs.held.Holds.{Loaded}

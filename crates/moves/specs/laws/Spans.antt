@@ -5,7 +5,7 @@ use native.Mathlib.Omega.{arith}
 use Rattle.std.specs.Prelude.{◌≡◌, false, ltb, eqb, length, ℤ, pos}
 use Rattle.std.proofs.Math.Path.{refl, sym, ap}
 use Rattle.std.proofs.Common.{◌∙◌}
-use mathlib.Core.List.{List, [], ◌∷◌}
+use mathlib.Core.List.{List}
 use borrow.Author.Tests.{ltb-true, ltb-false, le-ltb}
 use Rattle.std.proofs.Math.ListN.{get_or, set}
 use Rattle.std.proofs.Math.Seq.{set-get_or}
@@ -14,7 +14,7 @@ use Rattle.whole.specs.laws.Alls.{any_none, none_any}
 use Rattle.whole.specs.laws.Stores.{cases, length-upto, upto_more, upto_rest}
 use Rattle.whole.specs.held.Stored.{upto}
 use Rattle.ring.specs.Polygon.{entries_from}
-use Rattle.ring.specs.held.Rings.{polygon_at, Layout}
+use Rattle.ring.specs.held.Rings.{polygon_at}
 use Rattle.ring.specs.laws.Owners.{firsts_ordered}
 use Rattle.building.specs.declared.Scalars.{Scalars}
 use Rattle.building.specs.held.Holds.{Loaded}

@@ -1,7 +1,7 @@
 -- `normal::normal_of` meets its contract. The laws of three and of four corners, and for any other ring the sum over its steps.
 use native.Mathlib.Omega.{arith}
-use mathlib.Core.Bool.{not}
-use mathlib.Core.Path.{refl, ◌∙◌, sym, ap, ap₂}
+use mathlib.Core.Bool.{true, not}
+use mathlib.Core.Path.{◌≡◌, refl, ◌∙◌, sym, ap, ap₂}
 use lib.ListN.{get_or}
 use Rattle.space.specs.held.Points.{points_of}
 use Rattle.space.specs.Space.{plus}
@@ -20,7 +20,7 @@ returns-then-m-eq4 c = let h = c.requires.coords in
     let l = c.args.ring.now in
     c.normal_of_three.ensures
     ∙ cross-of h (get_or l 0 0) (get_or l 1 0) (get_or l 2 0) (k.each 0 (omega arith)) (k.each 1 (omega arith)) (k.each 2 (omega arith)) refl refl
-    ∙ sym (triangle_normal (points_of c.args.points.now) l c.if-m-eq4.true (unclosed_is c.is_closed.ensures (ap not c.if-is_closed.true)))
+    ∙ sym (triangle_normal (points_of c.args.points.now) l c.if-m-eq4.true (unclosed_is c.is_closed.ensures (let e : c.is_closed.result ≡ true = cc in ap not e)))
 
 pub normal_of_four-requires : goal.normal_of_four-requires
 normal_of_four-requires c = record { coords = c.requires.coords; a_bound = (c.requires.known.each 0 (omega arith), c.requires.known.each 1 (omega arith), c.requires.known.each 2 (omega arith), c.requires.known.each 3 (omega arith)) }
@@ -33,4 +33,4 @@ returns-then-m-eq5 c = let h = c.requires.coords in
     ∙ ap₂ plus
     (cross-of h (get_or l 0 0) (get_or l 1 0) (get_or l 2 0) (k.each 0 (omega arith)) (k.each 1 (omega arith)) (k.each 2 (omega arith)) refl refl)
     (cross-of h (get_or l 0 0) (get_or l 2 0) (get_or l 3 0) (k.each 0 (omega arith)) (k.each 2 (omega arith)) (k.each 3 (omega arith)) refl refl)
-    ∙ sym (quad_normal (points_of c.args.points.now) l c.if-m-eq5.true (unclosed_is c.is_closed.ensures (ap not c.if-is_closed.true)))
+    ∙ sym (quad_normal (points_of c.args.points.now) l c.if-m-eq5.true (unclosed_is c.is_closed.ensures (let e : c.is_closed.result ≡ true = cc in ap not e)))

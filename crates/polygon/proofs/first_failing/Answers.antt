@@ -1,11 +1,9 @@
 -- `polygon::first_failing` meets its contract. What 01 to 05 tell is the finding; where they tell nothing, 06 does.
 use mathlib.Core.Path.{◌≡◌, ◌∙◌, sym, ap}
 use mathlib.Core.Bool.{false}
-use mathlib.Core.List.{List}
 use Prim.Native.Nat.{◌≤◌}
 use native.Mathlib.Omega.{arith}
 use lib.ListN.{length}
-use borrow.Author.Rules.{rules}
 use Rattle.space.specs.held.Points.{points_of}
 use Rattle.space.specs.Space.{Point, places}
 use Rattle.ring.specs.Entries.{is_unclosed}

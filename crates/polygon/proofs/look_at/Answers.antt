@@ -1,7 +1,6 @@
 -- `polygon::look_at` meets its contract. An empty ring apart, the normal tells both.
 use native.Mathlib.Omega.{arith}
 use mir.Syntax.{w64}
-use borrow.Author.Rules.{rules}
 use Rattle.whole.specs.laws.Size.{call_is}
 use Rattle.space.specs.held.Points.{points_of}
 use Rattle.polygon.proofs.Order.{found_short, found_early}

@@ -3,9 +3,7 @@ use Prim.Native.Nat.{◌≤◌}
 use native.Mathlib.Omega.{arith}
 use mathlib.Core.Path.{◌≡◌, sym, ap, ◌∙◌}
 use mathlib.Core.Bool.{true}
-use mathlib.Core.List.{List}
 use lib.ListN.{length}
-use borrow.Author.Rules.{rules}
 use Rattle.space.specs.laws.Sizes.{near_same}
 use Rattle.space.specs.held.Points.{points_of}
 use Rattle.space.specs.Space.{Point, places}

@@ -3,7 +3,8 @@ use Rattle.std.specs.Prelude.{ℕ, ◌<◌, ◌≤◌, ◌≡◌, refl, Bool, tr
 use Rattle.std.proofs.Common.{sym, ◌∙◌, ltb-false}
 use Rattle.whole.specs.All.{more}
 use Rattle.whole.specs.Lists.{first, any, any_two}
-use Rattle.whole.proofs.laws.First.{rows, NoneGiven, Distinct, row-exactly, none-exactly, distinct_of}
+use Rattle.whole.specs.held.Rows.{rows}
+use Rattle.whole.proofs.laws.First.{NoneGiven, Distinct, row-exactly, none-exactly, distinct_of}
 use Rattle.polygon.specs.declared.Finding.{Finding}
 use Rattle.polygon.specs.declared.Finding.TheVariants.{Sound, Short, Unclosed, Repeated, NoNormal, Crossed, Uneven}
 use Rattle.space.specs.Space.{Point, places}

@@ -11,7 +11,7 @@ use Rattle.std.specs.Int.Signed.{lt_z}
 use Rattle.whole.specs.laws.Size.{abs_neg}
 use Rattle.whole.specs.laws.Solve.{◌⊕◌, ◌⊖◌, ◌⊗◌, ⊝◌, ring, ◌≔◌}
 use Rattle.whole.specs.Lists.{given, first, any, any_two, steps, last_of, numbered, sum_of}
-use Rattle.whole.specs.laws.Reverse.{any-reverse, any_two-reverse, any_two-map, anyTwo-same, counted, numbered-reverse, numbered_below, back, steps-reverse, any_two-turned, map_reverse_aux}
+use Rattle.whole.specs.laws.Reverse.{any-reverse, any_two-reverse, any_two-map, any_two-same, counted, numbered-reverse, numbered_below, back, steps-reverse, any_two-turned, map_reverse_aux}
 use Rattle.space.specs.Space.{Point, origin, plus, relative_to, cross, dot, places}
 use Rattle.space.specs.declared.Axis.{Axis}
 use Rattle.polygon.specs.declared.Finding.{Finding}
@@ -125,7 +125,7 @@ crossed_back es =
     ap₂ (λ (n : ℕ) (l : List (ℕ × Segment)). any_two (forbidden n) l) m (numbered-reverse back es)
     ∙ any_two-reverse (forbidden (length es)) (map (counted back (length es)) (numbered es))
     ∙ any_two-map (λ x y. forbidden (length es) y x) (counted back (length es)) (numbered es)
-    ∙ anyTwo-same (λ p. p.0 < length es) (λ x y. forbidden (length es) (counted back (length es) y) (counted back (length es) x)) (forbidden (length es)) (λ x y hx hy. forbidden-back (length es) x y hx hy) (numbered_below es)
+    ∙ any_two-same (λ p. p.0 < length es) (λ x y. forbidden (length es) (counted back (length es) y) (counted back (length es) x)) (forbidden (length es)) (λ x y hx hy. forbidden-back (length es) x y hx hy) (numbered_below es)
 
 edges-turned : (axis : Axis) (ps : List Point) → is_crossed (edges_in axis (reverse ps)) ≡ is_crossed (edges_in axis ps)
 unfolding edges_in

@@ -1,7 +1,6 @@
 -- `rays::crosses` meets its contract. Heights first, then the side.
 use mathlib.Core.Path.{◌∙◌, ap}
 use mir.Syntax.{w64}
-use borrow.Author.Rules.{rules}
 use Rattle.whole.specs.laws.Size.{small_back, call_is}
 use Rattle.whole.specs.laws.Tests.{le_flag}
 use lib.IntN.{ℤ, pos}

@@ -1,7 +1,6 @@
 -- `rays::edge_crosses` meets its contract. The four numbers are those of the two points.
 use mathlib.Core.Path.{◌∙◌}
 use mir.Syntax.{w64}
-use borrow.Author.Rules.{rules}
 use Rattle.whole.specs.laws.Size.{call_is}
 use Rattle.plane.specs.held.Edges.{spot}
 use Rattle.plane.specs.laws.Numbers.{spot_back, close_back}

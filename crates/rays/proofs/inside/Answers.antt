@@ -1,10 +1,7 @@
 -- What is left to show of `inside`.
 use native.Mathlib.Omega.{arith}
 use mathlib.Core.Path.{◌∙◌, ap}
-use Prim.Native.Nat.{◌-◌, ◌+◌}
-use mir.Syntax.{w64}
-use mir.Val.{to_z}
-use borrow.Author.Rules.{rules}
+use Prim.Native.Nat.{◌+◌}
 use Rattle.plane.specs.Plane.{Spot}
 use Rattle.plane.specs.held.Edges.{spot}
 use Rattle.plane.specs.laws.Numbers.{spot_back, close_back}
@@ -12,7 +9,7 @@ use Rattle.whole.specs.Lists.{steps}
 use Rattle.rays.specs.Inside.{inside}
 use Rattle.fan.specs.held.Fan.{spot_in}
 use Rattle.rays.specs.held.Seen.{spots_in}
-use Rattle.rays.proofs.laws.Counted.{Counted, counted_none, counted_more, counted-all, no_edges}
+use Rattle.rays.proofs.laws.Counted.{counted_none, counted_more, counted-all, no_edges}
 use Rattle.rays.proofs.inside.Goals as goal
 
 pub returns-then-n-eq0 : goal.returns-then-n-eq0

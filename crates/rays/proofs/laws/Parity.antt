@@ -1,11 +1,11 @@
 -- All corners of a path that shares no point with a closed ring are inside it, or none is.
-use Rattle.std.specs.Prelude.{ℕ, zero, suc, ◌+◌, ◌≤◌, ◌<◌, ◌≡◌, Bool, not, ◌&&◌, ◌||◌, ◌⊎◌, ℤ, pos, negsuc, neg_ℤ, nat_abs, ◌+ℤ◌, ◌*ℤ◌, ◌≤ℤ◌, ◌<ℤ◌}
+use Rattle.std.specs.Prelude.{ℕ, zero, suc, ◌+◌, ◌<◌, ◌≡◌, Bool, not, ◌&&◌, ◌||◌, ◌⊎◌, ℤ, pos, negsuc, neg_ℤ, nat_abs, ◌+ℤ◌, ◌*ℤ◌, ◌≤ℤ◌, ◌<ℤ◌}
 use Rattle.std.proofs.Common.{arith, ◌∙◌, true≢false, inl, inr}
 use Rattle.std.proofs.Math.Path.{refl, sym, ap, ap₂}
 use Rattle.std.proofs.Math.Bool.{true, false, or-false}
 use mathlib.Core.List.{List, [], ◌∷◌}
 use Rattle.std.specs.Int.Signed.{lt_z, le_z}
-use Rattle.whole.specs.laws.Solve.{v, k, ◌⊕◌, ◌⊗◌, ⊝◌, ring, ◌≔◌}
+use Rattle.whole.specs.laws.Solve.{k, ◌⊕◌, ◌⊗◌, ⊝◌, ring, ◌≔◌}
 use Rattle.whole.specs.laws.Linear.{◌≼◌, ◌≺◌, never, ◌⇒◌, lin}
 use Rattle.whole.specs.laws.Tests.{lt_yes, le_yes, le_no, lt_test, ge_test, lt_le}
 use Rattle.whole.specs.Lists.{any, tally, steps, steps_from, last_of}

@@ -9,7 +9,7 @@ use Rattle.whole.specs.Lists.{steps, steps_from}
 use Rattle.whole.specs.All.{All, none, more}
 use Rattle.whole.specs.laws.Alls.{all_imp}
 use Rattle.whole.specs.laws.Size.{abs_neg}
-use Rattle.whole.specs.laws.Solve.{v, k, ◌⊕◌, ◌⊖◌, ◌⊗◌, ⊝◌, ring, ◌≔◌}
+use Rattle.whole.specs.laws.Solve.{k, ◌⊕◌, ◌⊖◌, ◌⊗◌, ⊝◌, ring, ◌≔◌}
 use Rattle.whole.specs.laws.Ring.{combine}
 use Rattle.whole.specs.laws.Linear.{◌≼◌, ◌≺◌, ◌≈◌, never, ◌⇒◌, lin}
 use Rattle.whole.specs.laws.Tests.{lt_yes, le_yes, le_no, lt_test, le_test, gt_test, lt_le, mul_nonneg, mul_pos-pos}

@@ -10,7 +10,7 @@ use Rattle.std.specs.Int.Signed.{le_z}
 use Rattle.whole.specs.Lists.{tally, steps, steps_from, last_of}
 use Rattle.whole.specs.All.{All, none, more}
 use Rattle.whole.specs.laws.Alls.{all_imp}
-use Rattle.whole.specs.laws.Solve.{v, k, ◌⊕◌, ◌⊖◌, ◌⊗◌, ⊝◌, ring, ◌≔◌}
+use Rattle.whole.specs.laws.Solve.{k, ◌⊕◌, ◌⊖◌, ◌⊗◌, ⊝◌, ring, ◌≔◌}
 use Rattle.whole.specs.laws.Linear.{◌≼◌, ◌≺◌, ◌≈◌, never, ◌⇒◌, lin}
 use Rattle.whole.specs.laws.Tests.{le_yes, le_no, lt_test, ge_test, le_test, gt_test, lt_le, mul_nonneg, mul_pos-pos}
 use Rattle.plane.specs.Plane.{Spot, Segment, side, share}

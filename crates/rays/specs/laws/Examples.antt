@@ -1,5 +1,5 @@
 -- Places inside rings and outside them, worked out.
-use Rattle.std.specs.Prelude.{ℕ, ◌≡◌, refl, Bool, true, false, List, [], ◌∷◌, map, ℤ, pos, negsuc}
+use Rattle.std.specs.Prelude.{ℕ, ◌≡◌, refl, Bool, true, false, List, [], ◌∷◌, map, pos, negsuc}
 use Rattle.whole.specs.Lists.{steps, lists_compute}
 use Rattle.plane.specs.Plane.{Spot, plane_computes}
 use Rattle.plane.specs.held.Edges.{spot}

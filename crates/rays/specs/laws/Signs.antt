@@ -1,7 +1,7 @@
 -- Four sides of two segments, by their heights: where the one segment does not cut the other, the signs of the sides go together.
-use Rattle.std.specs.Prelude.{◌+◌, ◌<◌, ◌≡◌, ◌⊎◌, ℤ, pos, neg_ℤ, ◌+ℤ◌, ◌-ℤ◌, ◌*ℤ◌, ◌≤ℤ◌, ◌<ℤ◌}
+use Rattle.std.specs.Prelude.{◌≡◌, ◌⊎◌, ℤ, pos, neg_ℤ, ◌+ℤ◌, ◌-ℤ◌, ◌*ℤ◌, ◌≤ℤ◌, ◌<ℤ◌}
 use Rattle.std.proofs.Common.{arith, sym, ap, ◌∙◌, inl, inr}
-use Rattle.whole.specs.laws.Solve.{v, k, ◌⊕◌, ◌⊖◌, ◌⊗◌, ⊝◌, ring, ◌≔◌}
+use Rattle.whole.specs.laws.Solve.{k, ◌⊕◌, ◌⊖◌, ◌⊗◌, ⊝◌, ring, ◌≔◌}
 use Rattle.whole.specs.laws.Linear.{◌≼◌, ◌≺◌, ◌≈◌, never, ◌⇒◌, lin}
 use Rattle.whole.specs.laws.Tests.{three_ways, lt_le, mul_nonneg, mul_pos-pos}
 use Rattle.plane.specs.Plane.{Spot, side}

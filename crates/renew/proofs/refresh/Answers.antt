@@ -5,7 +5,6 @@ use lib.ListN.{set}
 use lib.IntN.{ℤ}
 use mir.Syntax.{w64}
 use Rattle.whole.specs.laws.Size.{call_is}
-use borrow.Author.Rules.{rules}
 use Rattle.renew.proofs.refresh.Goals as goal
 
 pub returns : goal.returns

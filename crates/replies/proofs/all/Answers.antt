@@ -1,11 +1,8 @@
 -- What is left to show of `all`.
-use Rattle.replies.specs.laws.Loop.{running_idle, running_turn, running_end, room_left, valid_idle, Running}
+use Rattle.replies.specs.laws.Loop.{running_idle, running_turn, running_end, room_left, valid_idle}
 use Rattle.building.specs.held.Holds.{arrays}
 use Rattle.lines.specs.laws.LineLaws.{end_above, end_inside}
-use borrow.Author.Rules.{rules}
-use lib.ListN.{length}
 use native.Mathlib.Omega.{arith}
-use Prim.Native.Nat.{◌+◌, ◌-◌}
 use Rattle.replies.proofs.all.Goals as goal
 
 pub loop-from-init : goal.loop-from-init

@@ -1,10 +1,7 @@
 -- `replies::all` meets its contract.
-use Rattle.replies.specs.laws.Loop.{running_idle, running_turn, running_end, room_left, valid_idle, Running}
+use Rattle.replies.specs.laws.Loop.{Running}
 use Rattle.building.specs.held.Holds.{arrays}
-use Rattle.lines.specs.laws.LineLaws.{end_above, end_inside}
-use borrow.Author.Rules.{rules}
 use lib.ListN.{length}
-use native.Mathlib.Omega.{arith}
 use Prim.Native.Nat.{◌+◌, ◌-◌}
 use Rattle.replies.proofs.all.Given as goal
 

@@ -17,7 +17,6 @@ use lib.ListN.{drop}
 use mir.Facts.{to_z-of_z}
 use Rattle.building.specs.held.Holds.{Arrays, arrays}
 use mathlib.Core.Path.{◌≡◌, refl, sym, ap, ◌∙◌}
-use borrow.Author.Rules.{rules}
 use Rattle.rings.specs.laws.Dids.{ends_of}
 use Rattle.replies.proofs.one.Goals as goal
 

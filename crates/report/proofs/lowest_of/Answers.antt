@@ -1,8 +1,6 @@
 -- What is left to show of `lowest_of`.
-use Prim.Native.Nat.{◌-◌}
 use native.Mathlib.Omega.{arith}
-use borrow.Author.Rules.{rules}
-use Rattle.totals.specs.laws.Scans.{Searched, searched_none, searched-more, searched-found, searched_done}
+use Rattle.totals.specs.laws.Scans.{searched_none, searched-more, searched-found, searched_done}
 use Rattle.report.proofs.lowest_of.Goals as goal
 
 pub loop-i-init : goal.loop-i-init

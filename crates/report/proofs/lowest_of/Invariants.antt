@@ -1,8 +1,6 @@
 -- `report::lowest_of` meets its contract. The loop keeps: the lowest of what is left tells of them all.
 use Prim.Native.Nat.{◌-◌}
-use native.Mathlib.Omega.{arith}
-use borrow.Author.Rules.{rules}
-use Rattle.totals.specs.laws.Scans.{Searched, searched_none, searched-more, searched-found, searched_done}
+use Rattle.totals.specs.laws.Scans.{Searched}
 use Rattle.report.proofs.lowest_of.Given as goal
 
 abbrev pub invariant-loop-i : goal.invariant-loop-i

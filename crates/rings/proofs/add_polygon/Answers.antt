@@ -5,13 +5,11 @@ use Rattle.desk.specs.laws.Dids.{did_refused}
 use Rattle.service.specs.Service.{is_accepted_of}
 use Rattle.frame.specs.Frame.{polygon, numbers}
 use lib.Seq.{sets}
-use lib.ListN.{length, drop, get_or, set}
-use Prim.Native.Nat.{ℕ, ◌+◌}
+use lib.ListN.{drop, get_or, set}
+use Prim.Native.Nat.{◌+◌}
 use native.Mathlib.Omega.{arith}
-use mathlib.Core.List.{List}
 use mathlib.Core.Bool.{true}
-use mathlib.Core.Path.{◌≡◌, sym, ◌∙◌, subst}
-use borrow.Author.Rules.{rules}
+use mathlib.Core.Path.{◌≡◌, sym, ◌∙◌}
 use Rattle.rings.proofs.add_polygon.Goals as goal
 
 pub copy_ring-requires : goal.copy_ring-requires

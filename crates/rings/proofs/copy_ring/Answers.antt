@@ -1,9 +1,8 @@
 -- What is left to show of `copy_ring`.
-use Rattle.rings.specs.laws.Copied.{Copied, copied_none, copied_more, copied_all}
+use Rattle.rings.specs.laws.Copied.{copied_none, copied_more, copied_all}
 use borrow.Author.Rules.{rules}
 use Rattle.frame.specs.Frame.{numbers}
 use native.Mathlib.Omega.{arith}
-use Prim.Native.Nat.{◌-◌, ◌≤◌}
 use lib.ListN.{drop}
 use Rattle.rings.proofs.copy_ring.Goals as goal
 

@@ -1,8 +1,6 @@
 -- `rings::copy_ring` meets its contract.
-use Rattle.rings.specs.laws.Copied.{Copied, copied_none, copied_more, copied_all}
-use borrow.Author.Rules.{rules}
+use Rattle.rings.specs.laws.Copied.{Copied}
 use Rattle.frame.specs.Frame.{numbers}
-use native.Mathlib.Omega.{arith}
 use Prim.Native.Nat.{◌-◌, ◌≤◌}
 use lib.ListN.{drop}
 use Rattle.rings.proofs.copy_ring.Given as goal

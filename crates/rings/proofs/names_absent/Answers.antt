@@ -1,14 +1,11 @@
 -- What is left to show of `names_absent`.
 use Rattle.whole.specs.laws.Search.{any_here, any_next, any_end}
-use Rattle.whole.specs.Lists.{any}
-use borrow.Author.Rules.{rules}
 use borrow.Author.Tests.{le-leb, lt-leb}
 use Rattle.frame.specs.Frame.{numbers}
 use native.Mathlib.Omega.{arith}
-use Prim.Native.Nat.{◌-◌, ◌≤◌}
 use lib.Dec.{leb}
 use lib.ListN.{drop, get_or}
-use mathlib.Core.Path.{◌≡◌, refl, sym, ◌∙◌}
+use mathlib.Core.Path.{refl, sym, ◌∙◌}
 use Rattle.rings.proofs.names_absent.Goals as goal
 
 pub loop-i-init : goal.loop-i-init

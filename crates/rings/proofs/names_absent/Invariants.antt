@@ -1,14 +1,10 @@
 -- `rings::names_absent` meets its contract.
-use Rattle.whole.specs.laws.Search.{any_here, any_next, any_end}
 use Rattle.whole.specs.Lists.{any}
-use borrow.Author.Rules.{rules}
-use borrow.Author.Tests.{le-leb, lt-leb}
 use Rattle.frame.specs.Frame.{numbers}
-use native.Mathlib.Omega.{arith}
 use Prim.Native.Nat.{◌-◌, ◌≤◌}
 use lib.Dec.{leb}
-use lib.ListN.{drop, get_or}
-use mathlib.Core.Path.{◌≡◌, refl, sym, ◌∙◌}
+use lib.ListN.{drop}
+use mathlib.Core.Path.{◌≡◌}
 use Rattle.rings.proofs.names_absent.Given as goal
 
 abbrev pub invariant-loop-i : goal.invariant-loop-i

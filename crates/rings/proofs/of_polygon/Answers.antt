@@ -3,9 +3,7 @@ use Rattle.rings.specs.laws.Rows.{polygon-misplaced, polygon-absent, polygon-man
 use Rattle.frame.specs.Frame.{numbers}
 use lib.ListN.{drop}
 use native.Mathlib.Omega.{arith}
-use borrow.Author.Tests.{not-true, not-false}
 use mathlib.Core.Path.{sym, ◌∙◌}
-use borrow.Author.Rules.{rules}
 use Rattle.rings.proofs.of_polygon.Goals as goal
 
 pub returns-then-not-is_loading : goal.returns-then-not-is_loading

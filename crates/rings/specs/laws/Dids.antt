@@ -12,7 +12,6 @@ use Rattle.frame.specs.Frame.{polygon}
 use Rattle.answer.specs.Answer.{plain}
 use Rattle.answer.specs.held.Wrote.{Wrote}
 use Rattle.shell.specs.declared.Shape.TheVariants.{Whole}
-use Rattle.building.specs.Tables.{loaded}
 use Rattle.building.specs.held.Holds.{Arrays, held_tables, held_building, Loaded}
 use Rattle.building.specs.laws.Load.{Room, tables-points, loaded-polygon, tables-polygon}
 use Rattle.service.specs.declared.Refusal.{Refusal}

@@ -1,6 +1,6 @@
 -- The corners of the rings, as `Fans` asks them, from the pairs of the table.
-use Rattle.std.specs.Prelude.{ℕ, zero, suc, ◌+◌, ◌-◌, ◌%◌, ◌≤◌, ◌<◌, min, max, ◌≡◌, refl, Bool, true, false, ◌⊎◌, List, [], eqb, leb, length, drop}
-use Rattle.std.proofs.Common.{le_refl, sym, ◌∙◌, inl, inr, ⊎_elim, leb-true, leb-false, eqb-true, length-take, length-drop, get_or-take, get_or-drop}
+use Rattle.std.specs.Prelude.{ℕ, zero, suc, ◌+◌, ◌-◌, ◌%◌, ◌≤◌, ◌<◌, min, max, ◌≡◌, refl, Bool, true, false, ◌⊎◌, List, eqb, length, drop}
+use Rattle.std.proofs.Common.{le_refl, sym, ◌∙◌, inl, inr, ⊎_elim, eqb-true, length-take, length-drop, get_or-take, get_or-drop}
 use Rattle.std.proofs.Math.Decide.{ℕ_discrete, dec_lt}
 use native.Mathlib.Omega.{arith}
 use Rattle.std.proofs.Math.Path.{ap, subst}

@@ -5,7 +5,6 @@ use Rattle.building.specs.held.Holds.{held_tables}
 use Rattle.whole.specs.laws.Size.{call_is}
 use mir.Syntax.{w64}
 use mathlib.Core.Path.{◌∙◌}
-use borrow.Author.Rules.{rules}
 use Rattle.telling.proofs.put_report.Goals as goal
 
 pub six_volume-volume-requires : goal.six_volume-volume-requires

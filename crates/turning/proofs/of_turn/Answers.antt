@@ -1,8 +1,6 @@
 -- `turning::of_turn` meets its contract.
 use Rattle.turning.specs.laws.Rows.{turn-misplaced, turn-late, turn-absent, turn-accepted}
-use borrow.Author.Tests.{not-true, not-false}
 use mathlib.Core.Path.{sym, ◌∙◌}
-use borrow.Author.Rules.{rules}
 use Rattle.turning.proofs.of_turn.Goals as goal
 
 pub returns-then-not-is_holding : goal.returns-then-not-is_holding

@@ -7,7 +7,6 @@ use Rattle.frame.specs.Frame.{turn}
 use mathlib.Core.Bool.{true}
 use Rattle.building.specs.held.Holds.{Arrays, arrays}
 use mathlib.Core.Path.{◌≡◌, sym, ◌∙◌}
-use borrow.Author.Rules.{rules}
 use Rattle.turning.proofs.turn_polygon.Goals as goal
 
 pub turn_polygon-held-requires : goal.turn_polygon-held-requires

@@ -1,16 +1,12 @@
 -- `turns::renew_finding` meets its contract. Without a position the finding is what it was; with one its number is, and the code for its check tells where.
-use Prim.Native.Nat.{ℕ, ◌%◌, ◌≤◌}
+use Prim.Native.Nat.{◌%◌, ◌≤◌}
 use native.Mathlib.Omega.{arith}
 use mathlib.Core.Path.{◌≡◌, sym, ap, ◌∙◌}
 use mathlib.Core.Bool.{true}
-use mathlib.Core.List.{List}
 use lib.ListN.{get_or, set}
 use lib.Seq.{set-get_or}
 use borrow.Author.Rules.{rules}
-use borrow.Author.Tests.{not-true, not-false}
-use Rattle.space.specs.Space.{Point}
 use Rattle.space.specs.held.Points.{points_of}
-use Rattle.polygon.specs.declared.Finding.{Finding}
 use Rattle.polygon.specs.Ring.{finding, finding_number_of}
 use Rattle.polygon.specs.held.Position.{has_position_of}
 use Rattle.polygon.specs.laws.Position.{position_few}

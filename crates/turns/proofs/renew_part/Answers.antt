@@ -5,7 +5,6 @@ use lib.IntN.{ℤ}
 use mir.Syntax.{w64}
 use mir.Facts.{to_z-of_z}
 use Rattle.whole.specs.laws.Size.{call_is}
-use borrow.Author.Rules.{rules}
 use Rattle.turns.proofs.renew_part.Goals as goal
 
 pub turned_part-after-requires : goal.turned_part-after-requires

@@ -1,10 +1,6 @@
 -- What is left to show of `reverse_in`.
-use Prim.Native.Nat.{◌-◌}
-use mathlib.Core.Path.{◌≡◌}
 use native.Mathlib.Omega.{arith}
-use lib.ListN.{length}
-use borrow.Author.Rules.{rules}
-use Rattle.turns.specs.laws.Reversing.{Reversing, reversing_none, reversing_more, reversing_done}
+use Rattle.turns.specs.laws.Reversing.{reversing_none, reversing_more, reversing_done}
 use Rattle.turns.proofs.reverse_in.Goals as goal
 
 pub loop-i-init : goal.loop-i-init

@@ -1,10 +1,8 @@
 -- `turns::reverse_in` meets its contract. The loop keeps: what is done, joined with what is still to be reversed, gives the whole.
 use Prim.Native.Nat.{◌-◌}
 use mathlib.Core.Path.{◌≡◌}
-use native.Mathlib.Omega.{arith}
 use lib.ListN.{length}
-use borrow.Author.Rules.{rules}
-use Rattle.turns.specs.laws.Reversing.{Reversing, reversing_none, reversing_more, reversing_done}
+use Rattle.turns.specs.laws.Reversing.{Reversing}
 use Rattle.turns.proofs.reverse_in.Given as goal
 
 abbrev pub invariant-loop-i : goal.invariant-loop-i

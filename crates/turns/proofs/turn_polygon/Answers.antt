@@ -5,7 +5,6 @@ use lib.ListN.{length-set}
 use Rattle.building.specs.held.Holds.{arrays, Shown}
 use Rattle.building.specs.laws.Rings.{ring_of, rings-many}
 use Rattle.turns.specs.laws.Turned.{flipped, did_turned, found_now, part-now}
-use borrow.Author.Rules.{rules}
 use Rattle.turns.proofs.turn_polygon.Goals as goal
 
 pub turn_ring-requires : goal.turn_ring-requires

@@ -8,7 +8,6 @@ use Rattle.volume.specs.Part.{part}
 use Rattle.space.specs.held.Points.{points_of}
 use Rattle.polygon.specs.held.Findings.{kept_finding}
 use Rattle.turns.specs.laws.Turned.{own-turned, own_ring, own_back}
-use borrow.Author.Rules.{rules}
 use Rattle.turns.proofs.turn_ring.Goals as goal
 
 pub renew_finding-requires : goal.renew_finding-requires

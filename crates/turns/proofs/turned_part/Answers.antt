@@ -3,7 +3,6 @@ use mathlib.Core.Path.{sym, ◌∙◌}
 use borrow.Author.Tests.{not-true}
 use Rattle.ring.specs.Entries.{is_unclosed}
 use Rattle.turns.specs.laws.Turned.{negated_fits, negated-is}
-use borrow.Author.Rules.{rules}
 use Rattle.turns.proofs.turned_part.Goals as goal
 
 pub overflow_sub-result : goal.overflow_sub-result

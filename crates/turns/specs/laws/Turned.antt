@@ -9,7 +9,6 @@ use Rattle.std.proofs.Math.ListN.{length, get_or, length-set}
 use Rattle.std.proofs.Math.Seq.{take-set-lt, length-sets}
 use Rattle.std.proofs.Math.IntN.{+ℤ_idl}
 use Rattle.std.specs.Int.{w64}
-use Rattle.whole.specs.Lists.{at}
 use Rattle.whole.specs.laws.Size.{small_more, small_fits}
 use Rattle.whole.specs.laws.Stores.{cases}
 use Rattle.ring.specs.Entries.{is_unclosed}

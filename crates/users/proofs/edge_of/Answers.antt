@@ -1,7 +1,6 @@
 -- `users::edge_of` meets its contract. The smaller number comes first.
 use native.Mathlib.Omega.{arith}
 use Rattle.users.proofs.Search.{edge-up, edge-down}
-use borrow.Author.Rules.{rules}
 use Rattle.users.proofs.edge_of.Goals as goal
 
 pub returns-then-a-b : goal.returns-then-a-b

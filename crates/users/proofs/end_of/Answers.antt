@@ -3,7 +3,6 @@ use Prim.Native.Nat.{◌+◌}
 use native.Mathlib.Omega.{arith}
 use mathlib.Core.Path.{refl}
 use Rattle.users.proofs.Search.{halving-rest, halving-few}
-use borrow.Author.Rules.{rules}
 use Rattle.users.proofs.end_of.Goals as goal
 
 pub first_of-requires : goal.first_of-requires

@@ -2,8 +2,6 @@
 use Prim.Native.Nat.{◌+◌, ◌-◌, ◌/◌}
 use native.Mathlib.Omega.{arith}
 use Rattle.users.proofs.Search.{halving-up, halving-down, halving_done}
-use Rattle.users.specs.held.Users.{Halving}
-use borrow.Author.Rules.{rules}
 use Rattle.users.proofs.first_of.Goals as goal
 
 pub loop-lo-init : goal.loop-lo-init

@@ -1,9 +1,6 @@
 -- `users::first_of` meets its contract. The loop keeps: before lo stand words of edges below e, and from hi on none.
-use Prim.Native.Nat.{◌+◌, ◌-◌, ◌/◌}
-use native.Mathlib.Omega.{arith}
-use Rattle.users.proofs.Search.{halving-up, halving-down, halving_done}
+use Prim.Native.Nat.{◌-◌}
 use Rattle.users.specs.held.Users.{Halving}
-use borrow.Author.Rules.{rules}
 use Rattle.users.proofs.first_of.Given as goal
 
 abbrev pub invariant-loop-lo : goal.invariant-loop-lo

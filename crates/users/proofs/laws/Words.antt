@@ -10,7 +10,7 @@ use Rattle.whole.specs.Lists.{steps, tab, keep, tally}
 use Rattle.whole.specs.laws.Places.{tab-length}
 use Rattle.whole.specs.held.Spans.{span}
 use Rattle.whole.specs.laws.Spans.{map-span, span_append}
-use Rattle.ring.specs.Polygon.{Polygon, rings_of, all, all_rings}
+use Rattle.ring.specs.Polygon.{Polygon, rings_of, all}
 use Rattle.ring.specs.held.Rings.{ring_at, polygon_at, polygons, Layout, owner_of}
 use Rattle.ring.specs.laws.Owners.{owned, owner_few, rings-at, firsts_ordered}
 use Rattle.edges.specs.Edges.{edge, edges_of, count}

@@ -6,7 +6,6 @@ use lib.ListN.{take, length-take}
 use lib.Seq.{length-take-le}
 use Rattle.users.specs.held.Users.{users_in, Told}
 use Rattle.users.proofs.Search.{halving_none, ordered, told_of}
-use borrow.Author.Rules.{rules}
 use Rattle.users.proofs.users_of.Goals as goal
 
 pub slice_bounds-words-end : goal.slice_bounds-words-end

@@ -1,5 +1,5 @@
 -- What the list tells of small polygons, by computation: two uses by one polygon, steps from a number to itself, points without an edge.
-use Rattle.std.specs.Prelude.{ℕ, ◌≡◌, refl, List, [], ◌∷◌}
+use Rattle.std.specs.Prelude.{◌≡◌, refl, List, [], ◌∷◌}
 use Rattle.whole.specs.Lists.{lists_compute}
 use Rattle.ring.specs.Polygon.{Polygon, one, polygon_computes}
 use Rattle.edges.specs.Edges.{edges_compute}

@@ -9,15 +9,11 @@ use Rattle.std.proofs.Math.Option.{Option}
 use Rattle.std.proofs.lemmas.Bool.{eqb-false}
 use Rattle.std.proofs.Math.ListN.{take}
 use Rattle.whole.specs.Lists.{given, first, any, any_two}
+use Rattle.whole.specs.held.Rows.{rows}
 use Rattle.whole.specs.All.{All, none, more}
 use Rattle.whole.specs.laws.Search.{any-parts, two-parts}
 
 module _ {A : Type 0} where
-  -- each row is its test's value, and its answer
-  unfoldable pub rows : List (Bool × A) → List (Option A)
-  rows [] = []
-  rows (r ∷ l) = given r.0 r.1 ∷ rows l
-
   -- no row of a list is given
   abbrev pub NoneGiven : List (Bool × A) → Type 0
   NoneGiven l = All (λ (r : Bool × A). r.0 ≡ false) l
@@ -125,16 +121,16 @@ module _ {A : Type 0} where
 
   -- ---- answers are told apart by their numbers
   module _ (f : A → ℕ) where
-    abbrev pub numbersOf : List (Bool × A) → List ℕ
-    numbersOf l = map (λ r. f r.1) l
+    abbrev pub numbers_of : List (Bool × A) → List ℕ
+    numbers_of l = map (λ r. f r.1) l
 
-    elsewhere-of : (b : A) (l : List (Bool × A)) → any (eqb (f b)) (numbersOf l) ≡ false → Elsewhere b l
+    elsewhere-of : (b : A) (l : List (Bool × A)) → any (eqb (f b)) (numbers_of l) ≡ false → Elsewhere b l
     elsewhere-of b [] e = none
-    elsewhere-of b (r ∷ l) e = let p = any-parts (eqb (f b)) (f r.1) (numbersOf l) e in more (λ z. eqb-false (f b) (f r.1) p.0 (ap f (sym z))) (elsewhere-of b l p.1)
+    elsewhere-of b (r ∷ l) e = let p = any-parts (eqb (f b)) (f r.1) (numbers_of l) e in more (λ z. eqb-false (f b) (f r.1) p.0 (ap f (sym z))) (elsewhere-of b l p.1)
 
-    pub distinct_of : (a : A) (l : List (Bool × A)) → any (eqb (f a)) (numbersOf l) ≡ false → any_two eqb (numbersOf l) ≡ false → Distinct a l
+    pub distinct_of : (a : A) (l : List (Bool × A)) → any (eqb (f a)) (numbers_of l) ≡ false → any_two eqb (numbers_of l) ≡ false → Distinct a l
     distinct_of a [] e q = alone
     distinct_of a (r ∷ l) e q =
-        let p = any-parts (eqb (f a)) (f r.1) (numbersOf l) e in
-        let t = two-parts eqb (f r.1) (numbersOf l) q in
+        let p = any-parts (eqb (f a)) (f r.1) (numbers_of l) e in
+        let t = two-parts eqb (f r.1) (numbers_of l) q in
         apart (λ z. eqb-false (f a) (f r.1) p.0 (ap f z)) (elsewhere-of r.1 l t.0) (distinct_of a l p.1 t.1)

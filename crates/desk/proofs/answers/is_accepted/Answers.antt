@@ -3,7 +3,6 @@ use Prim.Native.Nat.{ℕ}
 use lib.Dec.{eqb}
 use mathlib.Core.Path.{ap, ◌∙◌}
 use Rattle.desk.specs.laws.Rows.{accepted_number}
-use borrow.Author.Rules.{rules}
 use Rattle.desk.proofs.answers.is_accepted.Goals as goal
 
 pub returns : goal.returns

@@ -1,6 +1,5 @@
 -- `desk::answers::refuse` meets its contract.
 use Rattle.desk.specs.laws.Dids.{did_digits}
-use borrow.Author.Rules.{rules}
 use Rattle.desk.proofs.answers.refuse.Goals as goal
 
 pub returns : goal.returns

@@ -1,15 +1,13 @@
 -- What is left to show of `bounds::bounds_of`.
 use native.Mathlib.Omega.{arith}
-use Prim.Native.Nat.{◌-◌}
 use mathlib.Core.Path.{subst}
-use lib.ListN.{length, get_or}
+use lib.ListN.{get_or}
 use mir.Syntax.{w64}
-use borrow.Author.Rules.{rules}
 use Rattle.whole.specs.laws.Size.{call_is}
 use Rattle.plane.specs.Plane.{Spot}
 use Rattle.fan.specs.held.Fan.{spot_in}
 use Rattle.rays.specs.laws.Seen.{close_at, close_is, spot_is}
-use Rattle.holes.specs.held.Boxes.{Bounded, Widened}
+use Rattle.holes.specs.held.Boxes.{Widened}
 use Rattle.holes.specs.laws.Boxes.{bounded_none, bounded_more}
 use Rattle.holes.proofs.bounds.bounds_of.Goals as goal
 

@@ -2,7 +2,6 @@
 use mathlib.Core.Bool.{true, false}
 use mathlib.Core.Path.{◌∙◌, ap₂}
 use mir.Syntax.{w64}
-use borrow.Author.Rules.{rules}
 use Rattle.whole.specs.laws.Size.{call_is, small_back}
 use Rattle.holes.specs.held.Boxes.{further}
 use Rattle.holes.proofs.bounds.widened.Goals as goal

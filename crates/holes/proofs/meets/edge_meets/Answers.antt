@@ -1,14 +1,13 @@
 -- What is left to show of `meets::edge_meets`.
 use native.Mathlib.Omega.{arith}
-use Prim.Native.Nat.{◌-◌, ◌+◌}
+use Prim.Native.Nat.{◌+◌}
 use mathlib.Core.Path.{◌∙◌, sym, ap}
 use lib.ListN.{get_or}
-use borrow.Author.Rules.{rules}
 use Rattle.plane.specs.Plane.{share}
 use Rattle.plane.specs.held.Edges.{as_segment}
 use Rattle.fan.specs.held.Fan.{spot_in}
 use Rattle.holes.specs.laws.Boxes.{around, beside_none}
-use Rattle.holes.specs.laws.Passes.{ends_of, Left, left-all, left_here, left-next, left_end}
+use Rattle.holes.specs.laws.Passes.{ends_of, left-all, left_here, left-next, left_end}
 use Rattle.holes.proofs.meets.edge_meets.Goals as goal
 
 pub beside-requires : goal.beside-requires

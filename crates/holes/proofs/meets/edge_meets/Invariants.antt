@@ -1,14 +1,9 @@
 -- `holes::meets::edge_meets` meets its contract. The box first; then the loop: what is left of the ring tells of the whole.
-use native.Mathlib.Omega.{arith}
-use Prim.Native.Nat.{◌-◌, ◌+◌}
-use mathlib.Core.Path.{◌∙◌, sym, ap}
-use lib.ListN.{get_or}
-use borrow.Author.Rules.{rules}
+use Prim.Native.Nat.{◌-◌}
 use Rattle.plane.specs.Plane.{share}
 use Rattle.plane.specs.held.Edges.{as_segment}
 use Rattle.fan.specs.held.Fan.{spot_in}
-use Rattle.holes.specs.laws.Boxes.{around, beside_none}
-use Rattle.holes.specs.laws.Passes.{ends_of, Left, left-all, left_here, left-next, left_end}
+use Rattle.holes.specs.laws.Passes.{Left}
 use Rattle.holes.proofs.meets.edge_meets.Given as goal
 
 abbrev pub invariant-loop-i : goal.invariant-loop-i

@@ -1,6 +1,5 @@
 -- `holes::meets::edge_of` meets its contract. The four numbers are those of the two points.
 use mir.Syntax.{w64}
-use borrow.Author.Rules.{rules}
 use Rattle.whole.specs.laws.Size.{call_is}
 use Rattle.plane.specs.held.Edges.{spot}
 use Rattle.holes.proofs.meets.edge_of.Goals as goal

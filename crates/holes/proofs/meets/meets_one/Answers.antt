@@ -1,12 +1,10 @@
 -- What is left to show of `meets::meets_one`.
 use native.Mathlib.Omega.{arith}
-use Prim.Native.Nat.{◌-◌}
 use mathlib.Core.Path.{◌∙◌, sym}
-use borrow.Author.Rules.{rules}
 use Rattle.rays.specs.held.Seen.{spots_in}
 use Rattle.holes.specs.Holes.{meet}
 use Rattle.holes.specs.held.Rings.{spots_at}
-use Rattle.holes.specs.laws.Passes.{Rest, rest_all, rest-here, rest-next, rest_end}
+use Rattle.holes.specs.laws.Passes.{rest_all, rest-here, rest-next, rest_end}
 use Rattle.holes.proofs.meets.meets_one.Goals as goal
 
 pub bounds_of-b-requires : goal.bounds_of-b-requires

@@ -1,6 +1,5 @@
 -- `holes::meets::meets_ring` meets its contract. The boxes first; then edge by edge.
 use mathlib.Core.Path.{◌∙◌, sym}
-use borrow.Author.Rules.{rules}
 use Rattle.holes.specs.laws.Boxes.{around, parted-none}
 use Rattle.holes.proofs.meets.meets_ring.Goals as goal
 

@@ -1,15 +1,14 @@
 -- What is left to show of `meets::rings_meet`.
 use native.Mathlib.Omega.{arith}
-use Prim.Native.Nat.{◌-◌, ◌+◌}
+use Prim.Native.Nat.{◌+◌}
 use mathlib.Core.Path.{◌∙◌, sym, ap}
 use lib.ListN.{get_or}
-use borrow.Author.Rules.{rules}
 use Rattle.whole.specs.Lists.{any, steps}
 use Rattle.plane.specs.Plane.{Segment, share}
 use Rattle.fan.specs.held.Fan.{spot_in}
 use Rattle.rays.specs.held.Seen.{spots_in}
 use Rattle.holes.specs.Holes.{meet}
-use Rattle.holes.specs.laws.Passes.{ends_of, Left, left-all, left_here, left-next, left_end}
+use Rattle.holes.specs.laws.Passes.{ends_of, left-all, left_here, left-next, left_end}
 use Rattle.holes.proofs.meets.rings_meet.Goals as goal
 
 pub loop-i-init : goal.loop-i-init

@@ -1,15 +1,10 @@
 -- `holes::meets::rings_meet` meets its contract. The loop: what is left of the one ring tells of the whole.
-use native.Mathlib.Omega.{arith}
-use Prim.Native.Nat.{◌-◌, ◌+◌}
-use mathlib.Core.Path.{◌∙◌, sym, ap}
-use lib.ListN.{get_or}
-use borrow.Author.Rules.{rules}
+use Prim.Native.Nat.{◌-◌}
 use Rattle.whole.specs.Lists.{any, steps}
-use Rattle.plane.specs.Plane.{Segment, share}
+use Rattle.plane.specs.Plane.{share}
 use Rattle.fan.specs.held.Fan.{spot_in}
 use Rattle.rays.specs.held.Seen.{spots_in}
-use Rattle.holes.specs.Holes.{meet}
-use Rattle.holes.specs.laws.Passes.{ends_of, Left, left-all, left_here, left-next, left_end}
+use Rattle.holes.specs.laws.Passes.{Left}
 use Rattle.holes.proofs.meets.rings_meet.Given as goal
 
 abbrev pub invariant-loop-i : goal.invariant-loop-i

@@ -1,12 +1,12 @@
 -- What is left to show of `meets::two_meet`.
 use native.Mathlib.Omega.{arith}
-use Prim.Native.Nat.{◌-◌, ◌+◌, ◌<◌}
+use Prim.Native.Nat.{◌+◌}
 use mathlib.Core.Path.{◌∙◌, sym}
 use borrow.Author.Rules.{rules}
 use Rattle.holes.specs.Holes.{meet}
 use Rattle.holes.specs.held.Rings.{spots_at}
 use Rattle.holes.specs.laws.Tables.{rings-from}
-use Rattle.holes.specs.laws.Passes.{Rests, rests-all, rests-here, rests-next, rests-last}
+use Rattle.holes.specs.laws.Passes.{rests-all, rests-here, rests-next, rests-last}
 use Rattle.holes.proofs.meets.two_meet.Goals as goal
 
 pub loop-p-init : goal.loop-p-init

@@ -1,12 +1,8 @@
 -- `holes::meets::two_meet` meets its contract. The loop: the rings that are left tell of all, and the last has none after it.
-use native.Mathlib.Omega.{arith}
-use Prim.Native.Nat.{◌-◌, ◌+◌, ◌<◌}
-use mathlib.Core.Path.{◌∙◌, sym}
-use borrow.Author.Rules.{rules}
+use Prim.Native.Nat.{◌-◌, ◌<◌}
 use Rattle.holes.specs.Holes.{meet}
 use Rattle.holes.specs.held.Rings.{spots_at}
-use Rattle.holes.specs.laws.Tables.{rings-from}
-use Rattle.holes.specs.laws.Passes.{Rests, rests-all, rests-here, rests-next, rests-last}
+use Rattle.holes.specs.laws.Passes.{Rests}
 use Rattle.holes.proofs.meets.two_meet.Given as goal
 
 abbrev pub invariant-loop-p : goal.invariant-loop-p

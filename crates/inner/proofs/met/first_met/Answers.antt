@@ -1,12 +1,11 @@
 -- What is left to show of `met::first_met`.
-use Prim.Native.Nat.{ℕ, ◌+◌, ◌-◌}
+use Prim.Native.Nat.{ℕ, ◌+◌}
 use native.Mathlib.Omega.{arith}
 use mathlib.Core.Path.{ap, ◌∙◌}
-use borrow.Author.Rules.{rules}
 use Rattle.space.specs.held.Points.{points_of}
 use Rattle.ring.specs.held.Rings.{ring_at}
 use Rattle.holes.specs.held.Rings.{Ring}
-use Rattle.inner.proofs.laws.Tables.{order, ring_length, Looked, looked_none}
+use Rattle.inner.proofs.laws.Tables.{order, ring_length, looked_none}
 use Rattle.inner.proofs.laws.Met.{at_few, ring-some, found_here, found-later, never-past}
 use Rattle.inner.proofs.met.first_met.Goals as goal
 use Rattle.inner.proofs.met.first_met.Goals.{In-loop-q}

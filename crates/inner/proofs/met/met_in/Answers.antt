@@ -1,6 +1,5 @@
 -- `inner::met::met_in` meets its contract.
 use mathlib.Core.Path.{◌∙◌}
-use borrow.Author.Rules.{rules}
 use Rattle.space.specs.held.Points.{points_of}
 use Rattle.ring.specs.held.Rings.{ring_at}
 use Rattle.inner.proofs.laws.Met.{at_03, at_05}

@@ -1,14 +1,10 @@
 -- What is left to show of `rings::look_at_rings`.
-use Prim.Native.Nat.{ℕ, ◌-◌}
+use Prim.Native.Nat.{ℕ}
 use native.Mathlib.Omega.{arith}
 use mathlib.Core.Path.{subst}
-use mir.Syntax.{w64}
-use mir.Val.{to_z}
-use borrow.Author.Rules.{rules}
-use Rattle.space.specs.held.Points.{points_of, Coords}
+use Rattle.space.specs.held.Points.{points_of}
 use Rattle.ring.specs.held.Rings.{ring_at}
-use Rattle.holes.specs.held.Rings.{Rings}
-use Rattle.inner.proofs.laws.Tables.{order, Looked, looked_none, looked-more, looked-all, Summed, summed_none, sum_fits, summed_more, summed_all, own_few, own-part}
+use Rattle.inner.proofs.laws.Tables.{order, looked_none, looked-more, looked-all, summed_none, sum_fits, summed_more, summed_all, own_few, own-part}
 use Rattle.inner.specs.held.Told.{Told}
 use Rattle.inner.proofs.rings.look_at_rings.Goals as goal
 

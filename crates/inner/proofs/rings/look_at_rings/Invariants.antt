@@ -1,16 +1,9 @@
 -- `inner::rings::look_at_rings` meets its contract. The loop: what the rings that are left show tells of all, unless one told before; with
 -- their parts the sum is that of all.
-use Prim.Native.Nat.{ℕ, ◌-◌}
-use native.Mathlib.Omega.{arith}
-use mathlib.Core.Path.{subst}
-use mir.Syntax.{w64}
-use mir.Val.{to_z}
-use borrow.Author.Rules.{rules}
+use Prim.Native.Nat.{◌-◌}
 use Rattle.space.specs.held.Points.{points_of, Coords}
-use Rattle.ring.specs.held.Rings.{ring_at}
 use Rattle.holes.specs.held.Rings.{Rings}
-use Rattle.inner.proofs.laws.Tables.{order, Looked, looked_none, looked-more, looked-all, Summed, summed_none, sum_fits, summed_more, summed_all, own_few, own-part}
-use Rattle.inner.specs.held.Told.{Told}
+use Rattle.inner.proofs.laws.Tables.{Looked, Summed}
 use Rattle.inner.proofs.rings.look_at_rings.Given as goal
 
 abbrev pub invariant-loop-q : goal.invariant-loop-q

@@ -1,5 +1,4 @@
 -- `inner::rings::told` meets its contract. What was kept stays; otherwise the ring's own finding is kept, moved on where it has a position.
-use borrow.Author.Rules.{rules}
 use Rattle.inner.proofs.laws.Tables.{told_03, told_05, told_other}
 use Rattle.inner.proofs.rings.told.Goals as goal
 

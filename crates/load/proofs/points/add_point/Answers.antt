@@ -14,7 +14,6 @@ use Rattle.desk.specs.held.Holds.{service, does}
 use Rattle.desk.specs.laws.Rows.{seen}
 use Rattle.load.specs.laws.Dids.{did_points, did_point}
 use Rattle.desk.specs.laws.Dids.{did_refused}
-use borrow.Author.Rules.{rules}
 use Rattle.load.proofs.points.add_point.Goals as goal
 
 pub of_point-refusal-requires : goal.of_point-refusal-requires

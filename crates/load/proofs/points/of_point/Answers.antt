@@ -6,9 +6,7 @@ use Rattle.space.specs.Space.{Point}
 use Rattle.places.specs.Points.{is_far_of, stands_else_of}
 use mir.Facts.{to_z-of_z}
 use Rattle.load.specs.laws.Rows.{point_misplaced, point-beyond, point-full, point-taken, point-accepted}
-use borrow.Author.Tests.{not-true, not-false}
 use mathlib.Core.Path.{sym, ◌∙◌}
-use borrow.Author.Rules.{rules}
 use Rattle.load.proofs.points.of_point.Goals as goal
 
 pub returns-then-not-is_loading : goal.returns-then-not-is_loading

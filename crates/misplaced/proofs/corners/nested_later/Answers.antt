@@ -1,13 +1,12 @@
 -- What is left to show of `corners::nested_later`.
 use native.Mathlib.Omega.{arith}
 use native.Mathlib.Nat.{le_refl}
-use Prim.Native.Nat.{◌-◌, ◌+◌}
+use Prim.Native.Nat.{◌+◌}
 use mathlib.Core.Path.{◌∙◌, sym}
-use borrow.Author.Rules.{rules}
 use Rattle.fan.specs.held.Fan.{spot_in}
 use Rattle.holes.specs.held.Rings.{spots_at}
-use Rattle.holes.proofs.laws.Corners.{nested}
-use Rattle.holes.specs.laws.Passes.{Rest, rest_all, rest-here, rest-next, rest_end}
+use Rattle.holes.specs.held.Corners.{nested}
+use Rattle.holes.specs.laws.Passes.{rest_all, rest-here, rest-next, rest_end}
 use Rattle.misplaced.proofs.corners.nested_later.Goals as goal
 
 pub loop-q-init : goal.loop-q-init

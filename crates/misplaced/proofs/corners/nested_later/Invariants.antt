@@ -1,13 +1,9 @@
 -- `misplaced::corners::nested_later` meets its contract. The loop: the rings that are left tell of all.
-use native.Mathlib.Omega.{arith}
-use native.Mathlib.Nat.{le_refl}
 use Prim.Native.Nat.{◌-◌, ◌+◌}
-use mathlib.Core.Path.{◌∙◌, sym}
-use borrow.Author.Rules.{rules}
 use Rattle.fan.specs.held.Fan.{spot_in}
 use Rattle.holes.specs.held.Rings.{spots_at}
-use Rattle.holes.proofs.laws.Corners.{nested}
-use Rattle.holes.specs.laws.Passes.{Rest, rest_all, rest-here, rest-next, rest_end}
+use Rattle.holes.specs.held.Corners.{nested}
+use Rattle.holes.specs.laws.Passes.{Rest}
 use Rattle.misplaced.proofs.corners.nested_later.Given as goal
 
 abbrev pub invariant-loop-q : goal.invariant-loop-q

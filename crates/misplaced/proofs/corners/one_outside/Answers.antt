@@ -1,14 +1,13 @@
 -- What is left to show of `corners::one_outside`.
 use native.Mathlib.Omega.{arith}
 use native.Mathlib.Nat.{le_refl}
-use Prim.Native.Nat.{◌-◌, ◌+◌}
+use Prim.Native.Nat.{◌+◌}
 use mathlib.Core.Path.{◌∙◌, sym, ap}
 use mathlib.Core.Bool.{not}
-use borrow.Author.Rules.{rules}
 use Rattle.fan.specs.held.Fan.{spot_in}
 use Rattle.holes.specs.held.Rings.{spots_at}
-use Rattle.holes.proofs.laws.Corners.{stands}
-use Rattle.holes.specs.laws.Passes.{Rest, rest_all, rest-here, rest-next, rest_end}
+use Rattle.holes.specs.held.Corners.{stands}
+use Rattle.holes.specs.laws.Passes.{rest_all, rest-here, rest-next, rest_end}
 use Rattle.misplaced.proofs.corners.one_outside.Goals as goal
 
 pub loop-q-init : goal.loop-q-init

@@ -1,14 +1,10 @@
 -- `misplaced::corners::one_outside` meets its contract. The loop: the rings that are left tell of all.
-use native.Mathlib.Omega.{arith}
-use native.Mathlib.Nat.{le_refl}
 use Prim.Native.Nat.{◌-◌, ◌+◌}
-use mathlib.Core.Path.{◌∙◌, sym, ap}
 use mathlib.Core.Bool.{not}
-use borrow.Author.Rules.{rules}
 use Rattle.fan.specs.held.Fan.{spot_in}
 use Rattle.holes.specs.held.Rings.{spots_at}
-use Rattle.holes.proofs.laws.Corners.{stands}
-use Rattle.holes.specs.laws.Passes.{Rest, rest_all, rest-here, rest-next, rest_end}
+use Rattle.holes.specs.held.Corners.{stands}
+use Rattle.holes.specs.laws.Passes.{Rest}
 use Rattle.misplaced.proofs.corners.one_outside.Given as goal
 
 abbrev pub invariant-loop-q : goal.invariant-loop-q

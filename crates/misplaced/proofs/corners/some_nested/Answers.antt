@@ -1,13 +1,11 @@
 -- What is left to show of `corners::some_nested`.
 use native.Mathlib.Omega.{arith}
-use Prim.Native.Nat.{◌-◌}
 use mathlib.Core.Path.{◌∙◌, sym}
-use borrow.Author.Rules.{rules}
 use Rattle.fan.specs.held.Fan.{spot_in}
 use Rattle.holes.specs.held.Rings.{spots_at}
-use Rattle.holes.proofs.laws.Corners.{nested}
+use Rattle.holes.specs.held.Corners.{nested}
 use Rattle.holes.specs.laws.Tables.{rings-from, filled-from}
-use Rattle.holes.specs.laws.Passes.{Rests, rests-all, rests-here, rests-next, rests-end}
+use Rattle.holes.specs.laws.Passes.{rests-all, rests-here, rests-next, rests-end}
 use Rattle.misplaced.proofs.corners.some_nested.Goals as goal
 
 pub loop-p-init : goal.loop-p-init

@@ -1,13 +1,9 @@
 -- `misplaced::corners::some_nested` meets its contract. The loop: the rings that are left tell of all.
-use native.Mathlib.Omega.{arith}
 use Prim.Native.Nat.{◌-◌}
-use mathlib.Core.Path.{◌∙◌, sym}
-use borrow.Author.Rules.{rules}
 use Rattle.fan.specs.held.Fan.{spot_in}
 use Rattle.holes.specs.held.Rings.{spots_at}
-use Rattle.holes.proofs.laws.Corners.{nested}
-use Rattle.holes.specs.laws.Tables.{rings-from, filled-from}
-use Rattle.holes.specs.laws.Passes.{Rests, rests-all, rests-here, rests-next, rests-end}
+use Rattle.holes.specs.held.Corners.{nested}
+use Rattle.holes.specs.laws.Passes.{Rests}
 use Rattle.misplaced.proofs.corners.some_nested.Given as goal
 
 abbrev pub invariant-loop-p : goal.invariant-loop-p

@@ -3,7 +3,6 @@ use native.Mathlib.Omega.{arith}
 use mathlib.Core.Path.{◌∙◌, sym, ap}
 use lib.ListN.{get_or}
 use mir.Syntax.{w64}
-use borrow.Author.Rules.{rules}
 use Rattle.whole.specs.Lists.{steps}
 use Rattle.whole.specs.laws.Places.{map_at}
 use Rattle.whole.specs.laws.Size.{call_is}

@@ -1,7 +1,6 @@
 -- `misplaced::corners::two_nested` meets its contract. Either in the other.
 use mathlib.Core.Path.{ap₂}
 use mathlib.Core.Bool.{◌||◌}
-use borrow.Author.Rules.{rules}
 use Rattle.misplaced.proofs.corners.two_nested.Goals as goal
 
 pub returns : goal.returns

@@ -1,7 +1,6 @@
 -- `misplaced::facing::component` meets its contract. Axis by axis.
 use mathlib.Core.Path.{◌∙◌, sym, ap}
 use mir.Syntax.{w64}
-use borrow.Author.Rules.{rules}
 use Rattle.whole.specs.laws.Size.{small_back}
 use Rattle.space.specs.declared.Axis.{Axis}
 use Rattle.space.specs.held.Points.{as_point}

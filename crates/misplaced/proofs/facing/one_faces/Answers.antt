@@ -6,14 +6,13 @@ use mathlib.Core.Bool.{not}
 use lib.IntN.{ℤ}
 use mir.Syntax.{w64}
 use mir.Val.{to_z, of_z}
-use borrow.Author.Rules.{rules}
 use Rattle.whole.specs.Lists.{any}
 use Rattle.whole.specs.held.Spans.{span}
 use Rattle.whole.specs.laws.Size.{small_back, back_small}
 use Rattle.space.specs.held.Points.{points_of}
 use Rattle.ring.specs.held.Rings.{ring_at}
 use Rattle.holes.specs.Holes.{component_of, is_opposite}
-use Rattle.holes.specs.laws.Passes.{Rest, rest_all, rest-here, rest-next, rest_end}
+use Rattle.holes.specs.laws.Passes.{rest_all, rest-here, rest-next, rest_end}
 use Rattle.misplaced.proofs.facing.one_faces.Goals as goal
 
 pub loop-q-init : goal.loop-q-init

@@ -1,6 +1,5 @@
 -- `polygon::columns::crossed_few` meets its contract. Two columns are filled, and the edges between them are those of the definition.
 use mathlib.Core.Path.{◌∙◌}
-use borrow.Author.Rules.{rules}
 use Rattle.polygon.proofs.Filled.{spread_is, crossed_is}
 use Rattle.polygon.proofs.columns.crossed_few.Goals as goal
 

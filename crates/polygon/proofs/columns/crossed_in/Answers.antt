@@ -1,6 +1,5 @@
 -- `polygon::columns::crossed_in` meets its contract. A ring that does not fit small room has an edge.
 use native.Mathlib.Omega.{arith}
-use borrow.Author.Rules.{rules}
 use Rattle.polygon.proofs.columns.crossed_in.Goals as goal
 
 pub crossed_many-requires : goal.crossed_many-requires

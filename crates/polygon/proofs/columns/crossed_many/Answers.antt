@@ -1,7 +1,6 @@
 -- `polygon::columns::crossed_many` meets its contract. As `crossed_few`, in larger room.
 use native.Mathlib.Omega.{arith}
 use mathlib.Core.Path.{◌∙◌}
-use borrow.Author.Rules.{rules}
 use Rattle.polygon.proofs.Filled.{spread_is, crossed_is}
 use Rattle.polygon.proofs.columns.crossed_many.Goals as goal
 

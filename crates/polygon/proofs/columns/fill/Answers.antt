@@ -1,11 +1,8 @@
 -- What is left to show of `columns::fill`.
 use native.Mathlib.Omega.{arith}
-use Prim.Native.Nat.{◌-◌}
 use mir.Syntax.{w64}
-use lib.ListN.{length}
-use borrow.Author.Rules.{rules}
 use Rattle.whole.specs.laws.Size.{call_is}
-use Rattle.polygon.proofs.Filled.{Filling, filling_start, filling_more, filling_end}
+use Rattle.polygon.proofs.Filled.{filling_start, filling_more, filling_end}
 use Rattle.polygon.proofs.columns.fill.Goals as goal
 
 pub loop-i-init : goal.loop-i-init

@@ -1,6 +1,5 @@
 -- `polygon::columns::first_crossed` meets its contract. Each axis keeps the two coordinates that the call names.
 use mathlib.Core.Path.{◌∙◌, sym, ap}
-use borrow.Author.Rules.{rules}
 use Rattle.space.specs.held.Points.{points_of}
 use Rattle.polygon.specs.Ring.{edges_in}
 use Rattle.crossing.specs.Crossed.{crossed_at}

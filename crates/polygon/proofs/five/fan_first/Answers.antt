@@ -1,17 +1,15 @@
 -- `polygon::five::fan_first` meets its contract. Where the places fan out, 03 and 05 do not fail.
 use mathlib.Core.Path.{◌≡◌, ◌∙◌, sym, ap}
 use mathlib.Core.Bool.{true, false}
-use mathlib.Core.List.{List}
 use Prim.Native.Nat.{◌-◌}
 use lib.ListN.{length, get_or}
-use borrow.Author.Rules.{rules}
 use Rattle.space.specs.laws.Sizes.{near_same}
 use Rattle.normal.specs.laws.Sizes.{normal-near}
 use Rattle.space.specs.held.Points.{points_of, place_at, Near, as_point}
 use Rattle.normal.specs.Normal.{normal, is_zero_of}
 use Rattle.plane.specs.Plane.{largest_axis_of, drop_axis}
 use Rattle.fan.specs.held.Fan.{is_fan_of}
-use Rattle.space.specs.Space.{Point, places}
+use Rattle.space.specs.Space.{places}
 use Rattle.space.specs.declared.Axis.{Axis}
 use Rattle.polygon.proofs.Order.{found_none}
 use Rattle.polygon.proofs.Fans.{fan-single, fan-uncrossed}

@@ -1,6 +1,5 @@
 -- `polygon::five::first_crossed` meets its contract.
 use mathlib.Core.Path.{◌∙◌, ap}
-use borrow.Author.Rules.{rules}
 use Rattle.space.specs.declared.Axis.{Axis}
 use Rattle.space.specs.Space.{places}
 use Rattle.space.specs.held.Points.{points_of}

@@ -3,17 +3,14 @@ use mathlib.Core.Bool.{not}
 use native.Mathlib.Omega.{arith}
 use mathlib.Core.Path.{◌≡◌, ◌∙◌, sym, ap}
 use mathlib.Core.Bool.{false}
-use mathlib.Core.List.{List}
 use Prim.Native.Nat.{◌≤◌}
 use lib.ListN.{length}
-use borrow.Author.Tests.{not-true}
-use borrow.Author.Rules.{rules}
 use Rattle.space.specs.laws.Sizes.{near_same}
 use Rattle.normal.specs.laws.Sizes.{normal-near}
 use Rattle.space.specs.held.Points.{points_of, Near, as_point}
 use Rattle.ring.specs.Entries.{is_unclosed}
 use Rattle.normal.specs.Normal.{normal, is_zero_of}
-use Rattle.space.specs.Space.{Point, places}
+use Rattle.space.specs.Space.{places}
 use Rattle.ring.specs.laws.Rings.{unclosed_is}
 use Rattle.polygon.proofs.Order.{found_short, found-unclosed, found-triangle}
 use Rattle.polygon.proofs.five.first_of_five.Goals as goal

@@ -1,7 +1,6 @@
 -- `polygon::five::look_at_ring` meets its contract. As `look_at`, without 06.
 use native.Mathlib.Omega.{arith}
 use mir.Syntax.{w64}
-use borrow.Author.Rules.{rules}
 use Rattle.whole.specs.laws.Size.{call_is}
 use Rattle.space.specs.held.Points.{points_of}
 use Rattle.polygon.proofs.Order.{found_short}

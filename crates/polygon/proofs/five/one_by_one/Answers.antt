@@ -6,7 +6,6 @@ use mathlib.Core.Path.{◌≡◌}
 use mathlib.Core.Bool.{false}
 use Prim.Native.Nat.{◌≤◌}
 use lib.ListN.{length}
-use borrow.Author.Rules.{rules}
 use Rattle.space.specs.held.Points.{points_of}
 use Rattle.ring.specs.Entries.{is_unclosed}
 use Rattle.ring.specs.laws.Rings.{unclosed_is}

@@ -3,7 +3,6 @@ use native.Mathlib.Omega.{arith}
 use mathlib.Core.Path.{◌∙◌}
 use mir.Syntax.{w64}
 use lib.ListN.{get_or}
-use borrow.Author.Rules.{rules}
 use Rattle.whole.specs.laws.Size.{call_is}
 use Rattle.space.specs.laws.Sizes.{near_same, near_more, near-place}
 use Rattle.normal.specs.laws.Sizes.{normal-near}

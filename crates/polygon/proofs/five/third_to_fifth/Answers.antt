@@ -1,8 +1,6 @@
 -- `polygon::five::third_to_fifth` meets its contract. Each return is the row of the table whose test holds where no earlier one does.
 use mathlib.Core.Path.{◌≡◌, ◌∙◌, sym, ap}
 use mathlib.Core.Bool.{false}
-use mathlib.Core.List.{List}
-use borrow.Author.Rules.{rules}
 use Rattle.space.specs.laws.Sizes.{near_same}
 use Rattle.normal.specs.laws.Sizes.{normal-near}
 use Rattle.space.specs.held.Points.{points_of, Near, as_point}
@@ -11,7 +9,7 @@ use Rattle.normal.specs.Normal.{normal, is_zero_of}
 use Rattle.polygon.specs.Ring.{edges_in}
 use Rattle.crossing.specs.Crossed.{is_crossed, crossed_at}
 use Rattle.plane.specs.Plane.{largest_axis_of}
-use Rattle.space.specs.Space.{Point, places}
+use Rattle.space.specs.Space.{places}
 use Rattle.space.specs.declared.Axis.{Axis}
 use Rattle.polygon.proofs.Order.{found-repeated, found-no-normal, found-crossed, found_none, single_is, uncrossed_is}
 use Rattle.polygon.proofs.five.third_to_fifth.Goals as goal

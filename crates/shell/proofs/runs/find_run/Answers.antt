@@ -1,10 +1,8 @@
 -- What is left to show of `runs::find_run`.
-use Prim.Native.Nat.{◌-◌}
 use native.Mathlib.Omega.{arith}
 use mathlib.Core.List.{map}
-use lib.ListN.{length}
 use Rattle.words.specs.held.Words.{key_from}
-use Rattle.shell.specs.laws.Keys.{Finding, find_none, find_out, find-here, find-more, keys_sorted, key_below, key_above}
+use Rattle.shell.specs.laws.Keys.{find_none, find_out, find-here, find-more, keys_sorted, key_below, key_above}
 use Rattle.shell.proofs.runs.find_run.Goals as goal
 
 pub loop-i-init : goal.loop-i-init

@@ -1,10 +1,9 @@
 -- `shell::runs::find_run` meets its contract.
 use Prim.Native.Nat.{◌-◌}
-use native.Mathlib.Omega.{arith}
 use mathlib.Core.List.{map}
 use lib.ListN.{length}
 use Rattle.words.specs.held.Words.{key_from}
-use Rattle.shell.specs.laws.Keys.{Finding, find_none, find_out, find-here, find-more, keys_sorted, key_below, key_above}
+use Rattle.shell.specs.laws.Keys.{Finding}
 use Rattle.shell.proofs.runs.find_run.Given as goal
 
 abbrev pub invariant-loop-i : goal.invariant-loop-i

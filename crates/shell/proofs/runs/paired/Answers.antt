@@ -1,8 +1,5 @@
 -- What is left to show of `runs::paired`.
-use Rattle.shell.specs.laws.Keys.{Sweeping, sweeping_none, pair-next, pair-last, unpaired}
-use borrow.Author.Rules.{rules}
-use lib.ListN.{length}
-use Prim.Native.Nat.{◌-◌}
+use Rattle.shell.specs.laws.Keys.{sweeping_none, pair-next, pair-last, unpaired}
 use native.Mathlib.Omega.{arith}
 use Rattle.shell.proofs.runs.paired.Goals as goal
 

@@ -1,9 +1,7 @@
 -- `shell::runs::paired` meets its contract.
-use Rattle.shell.specs.laws.Keys.{Sweeping, sweeping_none, pair-next, pair-last, unpaired}
-use borrow.Author.Rules.{rules}
+use Rattle.shell.specs.laws.Keys.{Sweeping}
 use lib.ListN.{length}
 use Prim.Native.Nat.{◌-◌}
-use native.Mathlib.Omega.{arith}
 use Rattle.shell.proofs.runs.paired.Given as goal
 
 abbrev pub invariant-loop-i : goal.invariant-loop-i
