@@ -7,7 +7,7 @@ Definitions and lemmas are in snake case (lowestBare is lowest_bare); a dash sta
 word is added with an underscore (every_set). Types, modules and facts keep their capitals. Names of functions of src/, exported names,
 strings, inputs and outputs are not touched: only tokens that a file of specs/ or proofs/ declares are renamed, wherever they stand in
 .antt files, in clauses and comments of .rt files and in must-fail edits. A definition that would have a function's name gets _of
-(lowest_bare_of beside the function lowest_bare, node_from beside node_of), a lemma that would have a definition's gets _lem; what would still fall together stays, and is
+(lowest_bare_of beside the function lowest_bare, key_from beside key_of), a lemma that would have a definition's gets _lem; what would still fall together stays, and is
 printed. With --list nothing is written.
 """
 import glob
