@@ -4,7 +4,7 @@
 
 ghost use Rattle.std.specs.Prelude.{◌≡◌, ◌+◌, ◌≤◌, length};
 ghost use Rattle.frame.specs.Frame as F;
-ghost use Rattle.building.specs.held.Holds.{Arrays};
+ghost use Rattle.building.specs.declared.Arrays.{Arrays};
 ghost use Rattle.desk.specs.held.Holds.{service, Valid, Did, does};
 ghost use Rattle.across.specs.held.Across.{Sorted, AcrossRow};
 
@@ -12,25 +12,17 @@ use desk::Desk;
 use service::Refusal;
 
 // Why it is refused: "02 with no building held; 05 for an unknown point; two equal numbers also 05".
-fn of_across(d: Desk, m: usize, n: usize) -> Refusal
+fn of_across(d: Desk, m: usize, n: usize) -> Result<(), Refusal>
     ensures { AcrossRow d m n result }
 {
-    let mode = d.mode;
-    let held = d.held;
-    let points = held.points;
-    if !modes::is_holding(mode) {
-        return Refusal::Misplaced;
+    let points = d.held.points;
+    if !modes::is_holding(d.mode) {
+        return Err(Refusal::Misplaced);
     }
-    if points <= m {
-        return Refusal::Absent;
+    if points <= m || points <= n || m == n {
+        return Err(Refusal::Absent);
     }
-    if points <= n {
-        return Refusal::Absent;
-    }
-    if m == n {
-        return Refusal::Absent;
-    }
-    Refusal::Accepted
+    Ok(())
 }
 
 // The users of the edge between points m and n, from the edge table that is kept with the building.
@@ -38,15 +30,10 @@ pub fn ask(table: &[u64; 1024], room: &mut [u8], d: Desk, m: u16, n: u16) -> Des
     requires { (d.at + 33 ≤ length room.old) × Sorted table.now d }
     ensures { (a : Arrays) → a.table ≡ table.now → Valid a d → Did (does (service a d) (F.across m n)) room.old d.at a room.new result }
 {
-    let refusal = of_across(d, m as usize, n as usize);
-    if desk::is_accepted(refusal) {
-        let from = d.at;
-        let held = d.held;
-        let count = held.edges;
-        let users = users::users_of(table, count, m, n);
-        let at = answer::put_across(room, from, users.count, users.lowest, users.second);
-        let mode = d.mode;
-        return Desk { mode, held, at };
+    if let Err(refusal) = of_across(d, usize::from(m), usize::from(n)) {
+        return desk::refuse(room, d, refusal);
     }
-    desk::refuse(room, d, refusal)
+    let users = users::users_of(table, d.held.edges, m, n);
+    let at = answer::put_across(room, d.at, users.count, users.lowest, users.second);
+    Desk { at, ..d }
 }

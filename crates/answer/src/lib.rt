@@ -4,7 +4,7 @@
 
 ghost use Rattle.std.specs.Prelude.{◌+◌, ◌<◌, ◌≤◌, ◌≡◌, length};
 ghost use Rattle.std.proofs.lemmas.List.Edits.{sets};
-ghost use Rattle.hexadecimal.specs.Hex.{digit, digits, bits64};
+ghost use Rattle.hexadecimal.specs.Hex.{digit, digits};
 ghost use Rattle.lines.specs.Lines.{ended};
 ghost use Rattle.answer.specs.Answer.{plain, reported, told, across};
 ghost use Rattle.answer.specs.held.Wrote.{Wrote};
@@ -22,23 +22,10 @@ fn put_digits(room: &mut [u8], at: usize, k: usize, v: u64)
     requires { at + k ≤ length room.old }
     ensures { room.new ≡ sets room.old at (digits k v) }
 {
-    let mut w = v;
-    let mut i = k;
-    while 0 < i {
-        i -= 1;
-        room[at + i] = digit_of(w % 16);
-        w = w / 16;
-    }
-}
-
-// The 64 bits of a whole number in two's complement.
-fn bits(z: i64) -> u64
-    ensures { result ≡ bits64 z }
-{
-    if z < 0 {
-        18446744073709551615 - ((-1 - z) as u64)
-    } else {
-        z as u64
+    let mut left = v;
+    for i in (0..k).rev() {
+        room[at + i] = digit_of(left % 16);
+        left /= 16;
     }
 }
 
@@ -47,8 +34,8 @@ pub fn put_plain(room: &mut [u8], at: usize, n: u8) -> usize
     requires { at + 3 ≤ length room.old }
     ensures { Wrote (ended (plain n)) room.old at room.new result }
 {
-    put_digits(room, at, 2, n as u64);
-    room[at + 2] = 10;
+    put_digits(room, at, 2, u64::from(n));
+    room[at + 2] = b'\n';
     at + 3
 }
 
@@ -66,12 +53,12 @@ pub fn put_report(
     ensures { Wrote (ended (reported check a b faulty volume)) room.old at room.new result }
 {
     put_digits(room, at, 2, 0);
-    put_digits(room, at + 2, 2, check as u64);
+    put_digits(room, at + 2, 2, u64::from(check));
     put_digits(room, at + 4, 4, a as u64);
     put_digits(room, at + 8, 4, b as u64);
     put_digits(room, at + 12, 4, faulty as u64);
-    put_digits(room, at + 16, 16, bits(volume));
-    room[at + 32] = 10;
+    put_digits(room, at + 16, 16, volume.cast_unsigned());
+    room[at + 32] = b'\n';
     at + 33
 }
 
@@ -88,11 +75,11 @@ pub fn put_told(
     ensures { Wrote (ended (told finding position stamp part)) room.old at room.new result }
 {
     put_digits(room, at, 2, 0);
-    put_digits(room, at + 2, 2, finding as u64);
+    put_digits(room, at + 2, 2, u64::from(finding));
     put_digits(room, at + 4, 4, position as u64);
-    put_digits(room, at + 8, 8, stamp as u64);
-    put_digits(room, at + 16, 16, bits(part));
-    room[at + 32] = 10;
+    put_digits(room, at + 8, 8, u64::from(stamp));
+    put_digits(room, at + 16, 16, part.cast_unsigned());
+    room[at + 32] = b'\n';
     at + 33
 }
 
@@ -105,6 +92,6 @@ pub fn put_across(room: &mut [u8], at: usize, users: usize, lowest: usize, secon
     put_digits(room, at + 2, 4, users as u64);
     put_digits(room, at + 6, 4, lowest as u64);
     put_digits(room, at + 10, 4, second as u64);
-    room[at + 14] = 10;
+    room[at + 14] = b'\n';
     at + 15
 }

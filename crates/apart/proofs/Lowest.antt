@@ -3,7 +3,9 @@ use Prim.Native.Nat.{ℕ, ◌≤◌, ◌<◌}
 use native.Mathlib.Nat.{le_refl}
 use native.Mathlib.Decide.{dec_lt}
 use native.Mathlib.Omega.{arith}
-use mathlib.Core.Path.{◌≡◌, sym, subst}
+use Rattle.std.specs.Prelude.{Bool, true, false, not, Option, None, Some, unwrap_or}
+use Rattle.std.specs.Option.{is_some}
+use mathlib.Core.Path.{◌≡◌, refl, sym, subst}
 use mathlib.Core.Logic.{⊎_elim, by_cases}
 use mathlib.Core.List.{List}
 use borrow.Author.Tests.{eq-eqb, eqb-true}
@@ -53,6 +55,12 @@ module _ (m : List ℕ) (n r : ℕ) (few : n ≤ length m) (e : r ≡ lowest_bar
 
   pub lowest-none : n ≤ r → LowestBare m n n
   lowest-none h = record { within = le_refl n; before = before n h (le_refl n); bare = λ l. absurd (omega arith) }
+
+-- where no polygon is named, the number of them stands for it
+pub unnamed : (o : Option ℕ) (n : ℕ) (b : Bool) → is_some o ≡ not b → b ≡ true → unwrap_or o n ≡ n
+unnamed None n b e f = refl
+unnamed (Some p) n true e f = cc
+unnamed (Some p) n false e f = cc
 
 module _ (l m m' : List ℕ) (n r : ℕ) (b : Seeded m) (f : Spread (Joined l poly_from) n m m') (bits : (p : ℕ) → get_or m' p 0 ≤ 1) (u : LowestBare m' n r) where
   pub lowest_of-spread : LowestCut l n r

@@ -3,7 +3,7 @@ use Prim.Native.Nat.{ℕ, zero, suc, ◌+◌, ◌≤◌, ◌<◌, zero-le, suc-l
 use native.Mathlib.Nat.{le_refl, not-suc-le-zero, suc-ne-zero}
 use native.Mathlib.Decide.{ℕ_discrete, dec_lt}
 use native.Mathlib.Omega.{arith}
-use mathlib.Core.Path.{◌≡◌, refl, sym, ap, subst, ◌∙◌}
+use mathlib.Core.Path.{◌≡◌, sym, ap, subst, ◌∙◌}
 use mathlib.Core.Logic.{◌⊎◌, inl, inr, ⊎_elim, ◌≢◌, by_cases}
 use mathlib.Core.List.{List, [], ◌∷◌}
 use lib.ListN.{length, get_or, set, length-set}
@@ -14,21 +14,11 @@ use Rattle.reach.specs.held.Marking.{Marked, zeros, Joined, Flooded}
 use Rattle.apart.specs.held.Reaching.{Seeded, Last, Queue, Widened}
 use Rattle.words.specs.held.Words.{Mate}
 use Rattle.reach.specs.laws.Marks.{at_set, zeros_lt, mark_new, mark_stays, mark_either, mark-bits}
-use Rattle.words.specs.laws.Mates.{mate-up, mate-down, mate_one}
+use Rattle.words.specs.laws.Mates.{mate_one}
 use Rattle.reach.specs.laws.Joined.{mate-joined}
 
 -- ---- one node more
 module _ (m f : List ℕ) (t q : ℕ) (s : Queue m f t) where
-  pub note_old : Marked m q → Widened (λ e. e ≡ q) m f t m f t
-  note_old h = record {
-    queue = s;
-    grows = λ p k. k;
-    kept = λ k _. refl;
-    longer = le_refl t;
-    sound = λ p k. inl k;
-    whole = λ p e. subst (λ (x : ℕ). Marked m x) (sym e) h;
-  }
-
   module _ (low : q < 256) (z : get_or m q 0 ≡ 0) where
     inside : q < length m
     inside = omega (arith, s.marks.size)
@@ -98,18 +88,6 @@ pub record Visiting (l : List ℕ) (p : ℕ) (m₀ f₀ : List ℕ) (t₀ : ℕ)
   pub own : (c : ℕ) → j ≡ c + 1 → poly_from (get_or l c 0) ≡ p
   pub done : (a b : ℕ) → j ≤ a → a < length l → poly_from (get_or l a 0) ≡ p → Mate (length l) a b → Marked m (poly_from (get_or l b 0))
 
-pub visit-none : (l : List ℕ) (p : ℕ) (m f : List ℕ) (t j : ℕ) → Queue m f t → Last l p (length l) j → Visiting l p m f t m f t j
-visit-none l p m f t j s e = record {
-  queue = s;
-  grows = λ q h. h;
-  kept = λ k _. refl;
-  longer = le_refl t;
-  sound = λ q h. inl h;
-  within = e.within;
-  own = e.own;
-  done = λ a b ge lt q _. absurd (e.none a ge lt q);
-}
-
 module _ (l : List ℕ) (p : ℕ) (m₀ f₀ : List ℕ) (t₀ : ℕ) (m f : List ℕ) (t j : ℕ) (s : Visiting l p m₀ f₀ t₀ m f t j) where
   module _ (i k q : ℕ) (e : j ≡ i + 1) (here : Marked m₀ p) (mate : Mate (length l) i k) (eq : q ≡ poly_from (get_or l k 0)) (m' f' : List ℕ) (t' j' : ℕ) (w : Widened (λ x. x ≡ q) m f t m' f' t') (next : Last l (poly_from (get_or l i 0)) i j') where
     mine : poly_from (get_or l i 0) ≡ p
@@ -135,23 +113,6 @@ module _ (l : List ℕ) (p : ℕ) (m₀ f₀ : List ℕ) (t₀ : ℕ) (m f : Lis
       own = λ c z. next.own c z ∙ mine;
       done = done;
     }
-
-  pub visit_done : j ≡ 0 → Widened (Joined l poly_from p) m₀ f₀ t₀ m f t
-  visit_done z = record {
-    queue = s.queue;
-    grows = s.grows;
-    kept = s.kept;
-    longer = s.longer;
-    sound = s.sound;
-    whole = λ q v. whole q v v.ends;
-  }
-    where
-      low : (a : ℕ) → j ≤ a
-      low a = omega arith
-
-      whole : (q : ℕ) (v : Joined l poly_from p q) → ((poly_from (get_or l v.at 0) ≡ p) × (poly_from (get_or l (v.at + 1) 0) ≡ q)) ⊎ ((poly_from (get_or l (v.at + 1) 0) ≡ p) × (poly_from (get_or l v.at 0) ≡ q)) → Marked m q
-      whole q v (inl w) = subst (λ (x : ℕ). Marked m x) w.1 (s.done v.at (v.at + 1) (low v.at) (omega (arith, v.within)) w.0 (mate-up (length l) v.at v.even v.within))
-      whole q v (inr w) = subst (λ (x : ℕ). Marked m x) w.1 (s.done (v.at + 1) v.at (low (v.at + 1)) v.within w.0 (mate-down (length l) v.at v.even v.within))
 
 -- ---- each polygon once
 
@@ -200,9 +161,6 @@ take_none R m f s e z = record {
     lone j k a b = omega arith
 
 module _ (R : ℕ → ℕ → Type 0) (m₀ m f : List ℕ) (from to : ℕ) (s : Taking R m₀ m f from to) where
-  pub take_small : to ≤ 256
-  take_small = omega (arith, s.queue.room)
-
   module _ (h : from < to) (m' f' : List ℕ) (to' : ℕ) (w : Widened (R (get_or f from 0)) m f to m' f' to') where
     pub take_more : Taking R m₀ m' f' (from + 1) to'
     take_more = record {

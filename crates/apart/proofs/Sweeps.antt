@@ -5,6 +5,7 @@ use native.Mathlib.Decide.{ℕ_discrete, dec_lt}
 use native.Mathlib.Omega.{arith}
 use mathlib.Core.Path.{◌≡◌, refl, sym, subst, ◌∙◌}
 use mathlib.Core.Logic.{◌⊎◌, inl, inr, by_cases}
+use mathlib.Core.Bool.{Bool, true, false, ◌||◌, or-true, or-false}
 use mathlib.Core.List.{List}
 use lib.ListN.{length, get_or}
 use Rattle.words.specs.held.Words.{poly_from}
@@ -51,7 +52,7 @@ level_floods l m₀ m a g low high ev = grown_floods (Joined l poly_from) m₀ m
     closed p q h j (inr w) = rw (w.0, w.1) at (all j.at j.even j.within) ∙ h
 
 -- ---- one pair
-module _ (l m₀ m m' : List ℕ) (i x y r : ℕ) (size : length m ≡ 256) (bits : (p : ℕ) → get_or m p 0 ≤ 1) (ev : i % 2 ≡ 0) (h : i + 1 < length l) (ex : x ≡ poly_from (get_or l i 0)) (ey : y ≡ poly_from (get_or l (i + 1) 0)) (in_x : x < 256) (in_y : y < 256) (j : Joint x y m m' r) (g : Grown (Joined l poly_from) m₀ m) where
+module _ (l m₀ m m' : List ℕ) (i x y : ℕ) (r : Bool) (size : length m ≡ 256) (bits : (p : ℕ) → get_or m p 0 ≤ 1) (ev : i % 2 ≡ 0) (h : i + 1 < length l) (ex : x ≡ poly_from (get_or l i 0)) (ey : y ≡ poly_from (get_or l (i + 1) 0)) (in_x : x < 256) (in_y : y < 256) (j : Joint x y m m' r) (g : Grown (Joined l poly_from) m₀ m) where
   pair_grown : Grown (Joined l poly_from) m₀ m'
   pair_grown =
       joint-grown x y m m' r j bits (omega arith) (omega arith) (Joined l poly_from) m₀ g
@@ -59,7 +60,7 @@ module _ (l m₀ m m' : List ℕ) (i x y r : ℕ) (size : length m ≡ 256) (bit
       (record { at = i; even = ev; within = h; ends = inr (sym ey, sym ex) })
 
   -- without a mark the marks are as they were, and agree there
-  pair_agrees : r ≡ 0 → Agrees l m i
+  pair_agrees : r ≡ false → Agrees l m i
   pair_agrees z = rw (ex, ey) at (joint_still x y m m' r j z).1
 
 -- ---- a sweep up
@@ -77,8 +78,8 @@ up_none l m = record { even = refl; upto = zero-le; last_even = refl; before = l
 two-on : (n : ℕ) → n % 2 ≡ 0 → (n + 2) % 2 ≡ 0
 two-on n e = omega arith
 
-module _ (l m₀ m m' : List ℕ) (last i x y r : ℕ) (size : length m ≡ 256) (bits : (p : ℕ) → get_or m p 0 ≤ 1) (s : Up l m₀ m last i) (h : i + 1 < length l) (ex : x ≡ poly_from (get_or l i 0)) (ey : y ≡ poly_from (get_or l (i + 1) 0)) (in_x : x < 256) (in_y : y < 256) (j : Joint x y m m' r) where
-  pub up_still : r ≡ 0 → Up l m₀ m' last (i + 2)
+module _ (l m₀ m m' : List ℕ) (last i x y : ℕ) (r : Bool) (size : length m ≡ 256) (bits : (p : ℕ) → get_or m p 0 ≤ 1) (s : Up l m₀ m last i) (h : i + 1 < length l) (ex : x ≡ poly_from (get_or l i 0)) (ey : y ≡ poly_from (get_or l (i + 1) 0)) (in_x : x < 256) (in_y : y < 256) (j : Joint x y m m' r) where
+  pub up_still : r ≡ false → Up l m₀ m' last (i + 2)
   up_still z = record {
     even = two-on i s.even;
     upto = omega arith;
@@ -98,28 +99,17 @@ module _ (l m₀ m m' : List ℕ) (last i x y r : ℕ) (size : length m ≡ 256)
     level = level_none l m' (i + 2);
   }
 
-pub up_done : (l m₀ m : List ℕ) (last i : ℕ) → Up l m₀ m last i → length l ≤ i + 1 → SweptUp l m₀ m last
-up_done l m₀ m last i s h = record {
-  even = s.last_even;
-  within = omega (arith, s.before, s.upto);
-  grown = s.grown;
-  level = record { each = λ k e a b. s.level.each k e a (below k e s.even b) };
-}
-  where
-    below : (k : ℕ) → k % 2 ≡ 0 → i % 2 ≡ 0 → k + 1 < length l → k + 1 < i
-    below k e f b = omega arith
-
 -- ---- a sweep down
-pub record Down (l : List ℕ) (from : ℕ) (m₀ m : List ℕ) (some i : ℕ) : Type 0 where
+pub record Down (l : List ℕ) (from : ℕ) (m₀ m : List ℕ) (some : Bool) (i : ℕ) : Type 0 where
   pub even : i % 2 ≡ 0
   pub upto : i ≤ from
   pub grown : Grown (Joined l poly_from) m₀ m
-  pub level : some ≡ 0 → (m ≡ m₀) × Level l m i from
+  pub level : some ≡ false → (m ≡ m₀) × Level l m i from
 
-pub down-none : (l : List ℕ) (from : ℕ) (m : List ℕ) → from % 2 ≡ 0 → Down l from m m 0 from
+pub down-none : (l : List ℕ) (from : ℕ) (m : List ℕ) → from % 2 ≡ 0 → Down l from m m false from
 down-none l from m e = record { even = e; upto = le_refl from; grown = grown_none (Joined l poly_from) m; level = λ _. (refl, level_none l m from) }
 
-module _ (l : List ℕ) (from : ℕ) (m₀ m m' : List ℕ) (some at i x y r : ℕ) (size : length m ≡ 256) (bits : (p : ℕ) → get_or m p 0 ≤ 1) (s : Down l from m₀ m some at) (down : at ≡ i + 2) (within : from ≤ length l) (ex : x ≡ poly_from (get_or l i 0)) (ey : y ≡ poly_from (get_or l (i + 1) 0)) (in_x : x < 256) (in_y : y < 256) (j : Joint x y m m' r) where
+module _ (l : List ℕ) (from : ℕ) (m₀ m m' : List ℕ) (some : Bool) (at i x y : ℕ) (r : Bool) (size : length m ≡ 256) (bits : (p : ℕ) → get_or m p 0 ≤ 1) (s : Down l from m₀ m some at) (down : at ≡ i + 2) (within : from ≤ length l) (ex : x ≡ poly_from (get_or l i 0)) (ey : y ≡ poly_from (get_or l (i + 1) 0)) (in_x : x < 256) (in_y : y < 256) (j : Joint x y m m' r) where
   ev : i % 2 ≡ 0
   ev = back i (subst (λ (k : ℕ). k % 2 ≡ 0) down s.even)
     where
@@ -132,7 +122,7 @@ module _ (l : List ℕ) (from : ℕ) (m₀ m m' : List ℕ) (some at i x y r : �
   down_grown : Grown (Joined l poly_from) m₀ m'
   down_grown = pair_grown l m₀ m m' i x y r size bits ev h ex ey in_x in_y j s.grown
 
-  pub down_still : r ≡ 0 → Down l from m₀ m' some i
+  down_still : r ≡ false → Down l from m₀ m' some i
   down_still z = record {
     even = ev;
     upto = omega (arith, s.upto);
@@ -142,14 +132,15 @@ module _ (l : List ℕ) (from : ℕ) (m₀ m m' : List ℕ) (some at i x y r : �
         (q ∙ w.0, level_as l m m' i from q (level_down l m i from ev (subst (λ (k : ℕ). Level l m k from) down w.1) (pair_agrees l m₀ m m' i x y r size bits ev h ex ey in_x in_y j s.grown z)));
   }
 
-  pub down_marked : Down l from m₀ m' 1 i
-  down_marked = record { even = ev; upto = omega (arith, s.upto); grown = down_grown; level = λ e. absurd (omega arith) }
+  down_marked : Down l from m₀ m' true i
+  down_marked = record { even = ev; upto = omega (arith, s.upto); grown = down_grown; level = λ e. cc }
 
-pub down_done : (l : List ℕ) (from : ℕ) (m₀ m : List ℕ) (some i : ℕ) → Down l from m₀ m some i → i ≤ 1 → SweptDown l from m₀ m some
-down_done l from m₀ m some i s h = record { grown = s.grown; level = λ e. ((s.level e).0, subst (λ (k : ℕ). Level l m k from) (none i s.even h) (s.level e).1) }
-  where
-    none : (n : ℕ) → n % 2 ≡ 0 → n ≤ 1 → n ≡ 0
-    none n e g = omega arith
+  pub down_more : Down l from m₀ m' (some || r) i
+  down_more = go r refl
+    where
+      go : (b : Bool) → r ≡ b → Down l from m₀ m' (some || r) i
+      go true e = rw (e, or-true) down_marked
+      go false e = rw (e, or-false) (down_still e)
 
 -- ---- both, and the polygons below n
 module _ (l : List ℕ) (n : ℕ) (m₀ m₁ : List ℕ) (last : ℕ) (a : SweptUp l m₀ m₁ last) where
@@ -159,11 +150,11 @@ module _ (l : List ℕ) (n : ℕ) (m₀ m₁ : List ℕ) (last : ℕ) (a : Swept
   pub spread-up : (b : ℕ) → ((p : ℕ) → get_or m₁ p 0 ≤ 1) → LowestBare m₁ n b → b ≡ n → Spread (Joined l poly_from) n m₀ m₁
   spread-up b bits u e = spread-all m₁ b a.grown bits u e
 
-  module _ (m : List ℕ) (r : ℕ) (d : SweptDown l last m₁ m r) where
+  module _ (m : List ℕ) (r : Bool) (d : SweptDown l last m₁ m r) where
     both : Grown (Joined l poly_from) m₀ m
     both = grown_on (Joined l poly_from) m₀ m₁ m a.grown d.grown
 
-    pub spread-still : r ≡ 0 → Spread (Joined l poly_from) n m₀ m
+    pub spread-still : r ≡ false → Spread (Joined l poly_from) n m₀ m
     spread-still z = let w = d.level z in
         flood_spreads l m₀ m n (level_floods l m₀ m last both w.1 (level_as l m₁ m last (length l) w.0 a.level) a.even)
 

@@ -4,27 +4,24 @@
 
 ghost use Rattle.std.specs.Prelude.{◌≡◌, ◌+◌, ◌/◌, ◌%◌, ◌≤◌, length};
 ghost use Rattle.frame.specs.Frame as F;
-ghost use Rattle.building.specs.held.Holds.{Arrays};
+ghost use Rattle.building.specs.declared.Arrays.{Arrays};
 ghost use Rattle.desk.specs.held.Holds.{service, Valid, Did, does};
-ghost use Rattle.asking.specs.held.Asking.{Asked, QuestionRow};
+ghost use Rattle.asking.specs.held.Asking.{QuestionRow};
 
 use desk::Desk;
 use service::Refusal;
 
 // Why a question is refused.
-fn of_question(d: Desk, p: usize) -> Refusal
+fn of_question(d: Desk, p: usize) -> Result<(), Refusal>
     ensures { QuestionRow d p result }
 {
-    let mode = d.mode;
-    let held = d.held;
-    let n = held.polygons;
-    if !modes::is_holding(mode) {
-        return Refusal::Misplaced;
+    if !modes::is_holding(d.mode) {
+        return Err(Refusal::Misplaced);
     }
-    if n <= p {
-        return Refusal::Absent;
+    if d.held.polygons <= p {
+        return Err(Refusal::Absent);
     }
-    Refusal::Accepted
+    Ok(())
 }
 
 // The number of a finding as it is kept.
@@ -38,7 +35,7 @@ fn number_of(kept: u16) -> u8
 fn position_of(kept: u16) -> usize
     ensures { result ≡ kept / 16 }
 {
-    (kept / 16) as usize
+    usize::from(kept / 16)
 }
 
 // A question: the polygon's kept finding with its position, its stamp and its part.
@@ -50,21 +47,15 @@ pub fn ask(
     d: Desk,
     p: usize,
 ) -> Desk
-    requires { (d.at + 33 ≤ length room.old) × (Asked stamps.now findings.now parts.now d.held.polygons) }
+    requires { (d.at + 33 ≤ length room.old) × (d.held.polygons ≤ 256) }
     ensures { (a : Arrays) → a.stamps ≡ stamps.now → a.findings ≡ findings.now → a.parts ≡ parts.now → Valid a d → Did (does (service a d) (F.question p)) room.old d.at a room.new result }
 {
-    let refusal = of_question(d, p);
-    if desk::is_accepted(refusal) {
-        let from = d.at;
-        let kept = findings[p];
-        let finding = number_of(kept);
-        let position = position_of(kept);
-        let stamp = stamps[p];
-        let part = parts[p];
-        let at = answer::put_told(room, from, finding, position, stamp, part);
-        let mode = d.mode;
-        let held = d.held;
-        return Desk { mode, held, at };
+    if let Err(refusal) = of_question(d, p) {
+        return desk::refuse(room, d, refusal);
     }
-    desk::refuse(room, d, refusal)
+    let kept = findings[p];
+    let finding = number_of(kept);
+    let position = position_of(kept);
+    let at = answer::put_told(room, d.at, finding, position, stamps[p], parts[p]);
+    Desk { at, ..d }
 }

@@ -9,21 +9,19 @@ ghost use Rattle.space.specs.held.Points.{as_point, Near};
 use space::{Axis, Place};
 
 // "the axis where N is largest in size (ties: x, then y)"
+#[tactic(auto, using(space::specs::laws::Numbers::size_is, std::proofs::lemmas::Bool::Decides::nat_tests), unfolding(plane::specs::Plane::largest_axis_of))]
 pub fn largest_axis(n: Place) -> Axis
     requires { Near 10160000000000 (as_point n) }
     ensures { result ≡ largest_axis_of (as_point n) }
 {
-    let x = n.x;
-    let y = n.y;
-    let z = n.z;
-    let a = wide::size(x);
-    let b = wide::size(y);
-    let c = wide::size(z);
-    if (b <= a) & (c <= a) {
-        return Axis::X;
+    let x = n.x.unsigned_abs();
+    let y = n.y.unsigned_abs();
+    let z = n.z.unsigned_abs();
+    if y <= x && z <= x {
+        Axis::X
+    } else if z <= y {
+        Axis::Y
+    } else {
+        Axis::Z
     }
-    if c <= b {
-        return Axis::Y;
-    }
-    Axis::Z
 }

@@ -46,7 +46,7 @@ pub fn mark(marks: &mut [u64], p: usize)
 fn trailing_ones(word: u64) -> usize
     ensures { (result ≡ lowest_bare_of (bits_of 64 word)) × (result ≤ 64) }
 {
-    u64::trailing_zeros(!word) as usize
+    (!word).trailing_zeros() as usize
 }
 
 // The lowest number that has no mark, or how many numbers there are: the trailing ones of each word in turn, up to the first that is not full.
@@ -54,23 +54,13 @@ pub fn lowest_bare(marks: &[u64]) -> usize
     requires { length marks.now ≤ 16 }
     ensures { result ≡ lowest_bare_of (marks_of marks.now) }
 {
-    let n = marks.len();
-    let mut i = 0;
-    while i < n {
-        let k = trailing_ones(marks[i]);
+    for (i, word) in marks.iter().enumerate() {
+        let k = trailing_ones(*word);
         if k < 64 {
             return i * 64 + k;
         }
-        i += 1;
     }
-    n * 64
-}
-
-// How many of a word's bits are set.
-fn ones(word: u64) -> usize
-    ensures { (result ≡ sum_of (bits_of 64 word)) × (result ≤ 64) }
-{
-    u64::count_ones(word) as usize
+    marks.len() * 64
 }
 
 // How many are marked.
@@ -78,11 +68,5 @@ pub fn count(marks: &[u64]) -> usize
     requires { length marks.now ≤ 16 }
     ensures { result ≡ sum_of (marks_of marks.now) }
 {
-    let mut all: usize = 0;
-    let mut at = 0;
-    while at < marks.len() {
-        all += ones(marks[at]);
-        at += 1;
-    }
-    all
+    marks.iter().map(|word| word.count_ones() as usize).sum()
 }

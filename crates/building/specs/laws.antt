@@ -1,6 +1,7 @@
 -- What is proved of the definitions.
 pub mod Accepted
 pub mod Agree
+pub mod Beside
 pub mod Findings
 pub mod History
 pub mod Lists

@@ -2,11 +2,13 @@
 
 #![tactic(auto)]
 
-ghost use Rattle.std.specs.Prelude.{◌≡◌, ◌+◌, ◌<◌, ◌≤◌, length, set};
+ghost use Rattle.std.specs.Prelude.{◌≡◌, ◌+◌, ◌<◌, ◌≤◌, set};
 ghost use Rattle.polygon.specs.Ring.{finding_number_of, finding_position_of};
 
 use polygon::Finding;
+use ring::Rings;
 use shell::Shape;
+use space::Points;
 
 // The check that a report names, with its elements. `check_number_of`, `element_a_of` and `element_b_of` give document 01's numbers.
 #[derive(Clone, Copy)]
@@ -31,23 +33,29 @@ pub struct Scalars {
     pub shape: Shape,
 }
 
-// Ring n ends where the next one starts.
-pub fn close_ring(starts: &mut [u16; 1025], n: usize, end: usize)
-    requires { (length starts.old ≡ 1025) × ((n < 1024) × (end ≤ 1024)) }
+// The arrays: the points and the polygons of a load, and what is kept of each polygon beside them, namely its stamp, its finding, its
+// part and whether it stands turned; and the table of edges.
+#[derive(Drop)]
+pub struct Arrays {
+    pub points: Points,
+    pub rings: Rings,
+    pub stamps: [u32; 256],
+    pub findings: [u16; 256],
+    pub parts: [i64; 256],
+    pub table: [u64; 1024],
+    pub turned: [u8; 256],
+}
+
+// Ring n ends where the next one starts; or polygon n ends where the next one's first ring stands.
+pub fn close<const N: usize>(starts: &mut [u16; N], n: usize, end: usize)
+    requires { (n + 1 < N) × (end ≤ 1024) }
     ensures { starts.new ≡ set starts.old (n + 1) end }
 {
     starts[n + 1] = end as u16;
 }
 
-// Polygon n ends where the next one's first ring stands.
-pub fn close_polygon(firsts: &mut [u16; 257], n: usize, end: usize)
-    requires { (length firsts.old ≡ 257) × ((n < 256) × (end ≤ 1024)) }
-    ensures { firsts.new ≡ set firsts.old (n + 1) end }
-{
-    firsts[n + 1] = end as u16;
-}
-
 // Document 01's number of a finding.
+#[tactic(auto, unfolding(polygon::specs::Ring::finding_number_of))]
 pub fn finding_number(f: Finding) -> u8
     ensures { result ≡ finding_number_of f }
 {
@@ -65,6 +73,7 @@ pub fn finding_number(f: Finding) -> u8
 }
 
 // Where in the ring a finding is met; 0 where it has no position.
+#[tactic(auto, unfolding(polygon::specs::Ring::finding_position_of))]
 pub fn finding_position(f: Finding) -> u16
     ensures { result ≡ finding_position_of f }
 {

@@ -2,56 +2,80 @@
 
 #![tactic(auto)]
 
-ghost use Rattle.std.specs.Prelude.{◌≡◌, ◌+◌, ◌<◌, drop};
-ghost use Rattle.whole.specs.Lists.{any, numbered, tab};
+ghost use Rattle.std.specs.Prelude.{◌≡◌, ◌+◌, ◌<◌};
+ghost use Rattle.whole.specs.Lists.{tab};
 ghost use Rattle.crossing.specs.Crossed.{forbidden, crossed_at};
-ghost use Rattle.plane.specs.held.Edges.{edge_at};
+ghost use Rattle.plane.specs.held.Edges.{as_segment, edge_at};
 ghost use Rattle.crossing.specs.held.Columns.{Spread};
 
-// Whether edges i and j of m, i before j, have in common what they may not.
-fn clash(us: &[i64], vs: &[i64], m: usize, i: usize, j: usize) -> bool
-    requires spread { Spread us.now vs.now m }
-    requires i_lt_j { (i < j) × (j < m) }
-    ensures { result ≡ forbidden m (i, edge_at us.now vs.now i) (j, edge_at us.now vs.now j) }
-{
-    let e = neighbours::edge_at(us, vs, i);
-    let f = neighbours::edge_at(us, vs, j);
-    if i + 1 == j {
-        return neighbours::share_more(e, f);
-    }
-    if (i == 0) & (j + 1 == m) {
-        return neighbours::share_more(f, e);
-    }
-    plane::share(e, f)
+use plane::Edge;
+
+// The places of a ring of m edges in two columns, one after another: u and v of each.
+#[derive(Clone, Copy)]
+pub struct Columns<'a> {
+    pub us: &'a [i64],
+    pub vs: &'a [i64],
+    pub m: usize,
+    pub ghost spread: { Spread us.now vs.now m },
 }
 
-// Whether edge i of m and a later one do.
-fn clashes(us: &[i64], vs: &[i64], m: usize, i: usize) -> bool
-    requires spread { Spread us.now vs.now m }
-    requires i_lt_m { i < m }
-    ensures { result ≡ any (forbidden m (i, edge_at us.now vs.now i)) (drop (i + 1) (numbered (tab (edge_at us.now vs.now) m))) }
-{
-    let mut j = i + 1;
-    while j < m {
-        if clash(us, vs, m, i, j) {
-            return true;
+impl Columns<'_> {
+    ghost use Rattle.crossing.specs.held.Between.{segment, edge, edges, clashes_from};
+
+    // Edge i.
+    pub fn edge(&self, i: usize) -> Edge
+        requires { i < self.now.m }
+        ensures { as_segment result ≡ segment self.now i }
+    {
+        neighbours::edge_at(self.us, self.vs, i)
+    }
+
+    // Whether edges i and j, i before j, have in common what they may not.
+    fn clash(&self, i: usize, j: usize) -> bool
+        requires { (i < j) × (j < self.now.m) }
+        ensures { result ≡ forbidden self.now.m (edge self.now i) (edge self.now j) }
+    {
+        let e = self.edge(i);
+        let f = self.edge(j);
+        if i + 1 == j {
+            return neighbours::share_more(e, f);
         }
-        j += 1;
+        if (i == 0) & (j + 1 == self.m) {
+            return neighbours::share_more(f, e);
+        }
+        plane::share(e, f)
     }
-    false
+
+    // Whether edge i and a later one do.
+    fn clashes(&self, i: usize) -> bool
+        requires { i < self.now.m }
+        ensures { result ≡ clashes_from self.now i (i + 1) }
+    {
+        for j in i + 1..self.m {
+            if self.clash(i, j) {
+                return true;
+            }
+        }
+        false
+    }
+
+    // The first edge that does so with a later one, and so the least that does with any; m if there is none.
+    fn first_crossed(&self) -> usize
+        ensures { result ≡ crossed_at (edges self.now) }
+    {
+        for i in 0..self.m {
+            if self.clashes(i) {
+                return i;
+            }
+        }
+        self.m
+    }
 }
 
-// The first of m edges that does so with a later one, and so the least that does with any; m if there is none.
+// The least of the m edges between places in two columns that does with any other; m if there is none.
 pub fn first_crossed(us: &[i64], vs: &[i64], m: usize) -> usize
     requires { Spread us.now vs.now m }
     ensures { result ≡ crossed_at (tab (edge_at us.now vs.now) m) }
 {
-    let mut i: usize = 0;
-    while i < m {
-        if clashes(us, vs, m, i) {
-            return i;
-        }
-        i += 1;
-    }
-    i
+    Columns { us, vs, m }.first_crossed()
 }

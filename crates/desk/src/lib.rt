@@ -7,7 +7,7 @@ use modes::Mode;
 
 mod answers;
 
-pub use answers::{is_accepted, refuse};
+pub use answers::refuse;
 
 // The service's scalars: what is held, and the place in the room where the next answer goes.
 #[derive(Clone, Copy)]

@@ -9,34 +9,24 @@ use shell::Shape;
 
 // The direction in which a word's step is gone now.
 fn heading(w: u64, turned: &[u8; 256]) -> u64
-    requires { length turned.now ≡ 256 }
     ensures { result ≡ heading_of turned.now w }
 {
     let p = (w / 2097152 % 256) as usize;
-    let f = flag_of(turned[p]);
+    let f = u64::from(turned[p]);
     (w % 2 + f) % 2
-}
-
-fn flag_of(x: u8) -> u64
-    ensures { (result ≡ x) × (result < 256) }
-{
-    x as u64
 }
 
 // Check 0A, where each edge is used twice: the edge of the first pair gone in one direction, or the verdict without it.
 fn alike(words: &[u64], turned: &[u8; 256], fixed: Shape) -> Shape
-    requires { length turned.now ≡ 256 }
     ensures { result ≡ or_alike fixed (alike_in turned.now words.now) }
 {
-    let mut i = 0;
-    while i + 1 < words.len() {
-        let a = heading(words[i], turned);
-        let b = heading(words[i + 1], turned);
+    for pair in words.chunks_exact(2) {
+        let a = heading(pair[0], turned);
+        let b = heading(pair[1], turned);
         if a == b {
-            let k = words::key_of(words[i]);
+            let k = words::key_of(pair[0]);
             return Shape::Alike((k / 65536) as usize, (k % 65536) as usize);
         }
-        i += 2;
     }
     fixed
 }
@@ -45,26 +35,17 @@ fn alike(words: &[u64], turned: &[u8; 256], fixed: Shape) -> Shape
 fn is_early(s: Shape) -> bool
     ensures { result ≡ early s }
 {
-    match s {
-        Shape::Whole => false,
-        Shape::Few(_) => true,
-        Shape::Once(_, _) => true,
-        Shape::Often(_, _) => true,
-        Shape::Alike(_, _) => false,
-        Shape::Apart(_) => false,
-        Shape::Unlinked(_) => false,
-    }
+    matches!(s, Shape::Few(_) | Shape::Once(_, _) | Shape::Often(_, _))
 }
 
 // The check of 07 to 0C that fails first for the rings as they stand now: `turned` has 1 for each polygon that stands turned.
 // `laws/Now` (`now_is`) says so of the rings that table, flags and verdict belong to.
 pub fn shape_now(table: &[u64; 1024], count: usize, turned: &[u8; 256], fixed: Shape) -> Shape
-    requires { (count ≤ 1024) × (length table.now ≡ 1024) × (length turned.now ≡ 256) }
+    requires { count ≤ 1024 }
     ensures { result ≡ now_of fixed (alike_in turned.now (take count table.now)) }
 {
     if is_early(fixed) {
         return fixed;
     }
-    let all = &table[..];
-    alike(&all[..count], turned, fixed)
+    alike(&table[..count], turned, fixed)
 }

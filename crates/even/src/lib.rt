@@ -4,22 +4,15 @@
 
 ghost use Rattle.std.specs.Prelude.{◌≡◌, ◌<◌, ◌≤◌, ◌*◌, max, length, pos, nat_abs, ◌*ℤ◌, false, leb, ltb};
 ghost use Rattle.space.specs.Space.{places, relative_to, dot};
-ghost use Rattle.space.specs.held.Points.{points_of, Coords, Known, place_at, as_point, Near};
+ghost use Rattle.space.specs.held.Points.{points_of, Known, place_at, as_point, Near};
 ghost use Rattle.ring.specs.Entries.{is_unclosed};
 ghost use Rattle.normal.specs.Normal.{normal};
 ghost use Rattle.even.specs.Even.{uneven_at, square, squares};
 ghost use Rattle.even.specs.held.Offs.{largest, Listed, Next};
 ghost use Rattle.wide.specs.Value.{value};
 
-use space::Place;
+use space::{Place, Points};
 use wide::Wide;
-
-// The larger of two sizes.
-fn larger(a: u64, b: u64) -> u64
-    ensures { result ≡ max a b }
-{
-    if a < b { b } else { a }
-}
 
 // The tolerance times the largest of N's components: where the size of N·(p - first) is no more, p is within the tolerance.
 fn reach_of(tolerance: u16, n: Place) -> u64
@@ -27,13 +20,10 @@ fn reach_of(tolerance: u16, n: Place) -> u64
     requires near { Near 10160000000000 (as_point n) }
     ensures { result ≡ tolerance * largest (as_point n) }
 {
-    let x = n.x;
-    let y = n.y;
-    let z = n.z;
-    let a = wide::size(x);
-    let b = wide::size(y);
-    let c = wide::size(z);
-    (tolerance as u64) * larger(a, larger(b, c))
+    let a = wide::size(n.x);
+    let b = wide::size(n.y);
+    let c = wide::size(n.z);
+    (tolerance as u64) * a.max(b.max(c))
 }
 
 // "tolerance squared times the sum of the squares of N's components": each component times the tolerance, squared.
@@ -42,24 +32,20 @@ fn limit_of(tolerance: u16, n: Place) -> Wide
     requires near { Near 10160000000000 (as_point n) }
     ensures { pos (value result) ≡ square (pos tolerance) *ℤ squares (as_point n) }
 {
-    let x = n.x;
-    let y = n.y;
-    let z = n.z;
     let t = tolerance as u64;
-    let a = t * wide::size(x);
-    let b = t * wide::size(y);
-    let c = t * wide::size(z);
+    let a = t * wide::size(n.x);
+    let b = t * wide::size(n.y);
+    let c = t * wide::size(n.z);
     wide::squares(a, b, c)
 }
 
 // The size of N·(p - first).
-fn off(points: &[i32; 1536], n: Place, first: u16, p: u16) -> u64
-    requires coords { Coords points.now }
+fn off(points: &Points, n: Place, first: u16, p: u16) -> u64
     requires first_bound { (first < 512) × (p < 512) }
     requires near { Near 10160000000000 (as_point n) }
-    ensures { result ≡ nat_abs (dot (as_point n) (relative_to (place_at points.now first) (place_at points.now p))) }
+    ensures { result ≡ nat_abs (dot (as_point n) (relative_to (place_at points.now.flat first) (place_at points.now.flat p))) }
 {
-    wide::size(space::dot(n, space::toward(points, first, p)))
+    wide::size(space::dot(n, points.toward(first, p)))
 }
 
 // Whether the square of a size exceeds a limit.
@@ -70,67 +56,57 @@ fn is_beyond(size: u64, limit: Wide) -> bool
 }
 
 // Whether N·(p - first) is within the reach: then p is within the tolerance.
-fn is_near(points: &[i32; 1536], n: Place, tolerance: u16, first: u16, p: u16) -> bool
-    requires coords { Coords points.now }
+fn is_near(points: &Points, n: Place, tolerance: u16, first: u16, p: u16) -> bool
     requires first_bound { (first < 512) × (p < 512) × (tolerance ≤ 1000) }
     requires near { Near 10160000000000 (as_point n) }
-    ensures { result ≡ leb (nat_abs (dot (as_point n) (relative_to (place_at points.now first) (place_at points.now p)))) (tolerance * largest (as_point n)) }
+    ensures { result ≡ leb (nat_abs (dot (as_point n) (relative_to (place_at points.now.flat first) (place_at points.now.flat p)))) (tolerance * largest (as_point n)) }
 {
     off(points, n, first, p) <= reach_of(tolerance, n)
 }
 
-// The first entry from i on that is off by more than a reach, or the ring's length.
-fn next_off(points: &[i32; 1536], ring: &[u16], n: Place, i: usize, reach: u64) -> usize
-    requires coords { Coords points.now }
+// The first entry that is off by more than a reach, or the ring's length.
+fn first_off(points: &Points, ring: &[u16], n: Place, reach: u64) -> usize
     requires listed { Listed ring.now }
-    requires in_bounds { (1 ≤ length ring.now) × (i ≤ length ring.now) }
+    requires in_bounds { 1 ≤ length ring.now }
     requires near { Near 10160000000000 (as_point n) }
-    ensures { Next points.now (as_point n) ring.now reach i result }
+    ensures { Next points.now.flat (as_point n) ring.now reach 0 result }
 {
-    let first = ring[0];
-    let mut j = i;
-    while j < ring.len() {
-        if reach < off(points, n, first, ring[j]) {
-            return j;
+    for (i, p) in ring.iter().enumerate() {
+        if reach < off(points, n, ring[0], *p) {
+            return i;
         }
-        j += 1;
     }
-    j
+    ring.len()
 }
 
 // 06: the least entry p for which "the square of N·(p - first) exceeds tolerance squared times the sum of the squares of N's
 // components", or the ring's length. The limit is made once, and not at all where every entry is within the reach.
-pub fn first_uneven(points: &[i32; 1536], ring: &[u16], tolerance: u16, n: Place) -> usize
-    requires coords { Coords points.now }
+pub fn first_uneven(points: &Points, ring: &[u16], tolerance: u16, n: Place) -> usize
     requires listed { Listed ring.now }
     requires in_bounds { (1 ≤ length ring.now) × (tolerance ≤ 1000) }
     requires near { Near 10160000000000 (as_point n) }
-    ensures { result ≡ uneven_at tolerance (as_point n) (places (points_of points.now) ring.now) }
+    ensures { result ≡ uneven_at tolerance (as_point n) (places (points_of points.now.flat) ring.now) }
 {
-    let reach = reach_of(tolerance, n);
-    let mut i = next_off(points, ring, n, 0, reach);
-    if i == ring.len() {
-        return i;
+    let from = first_off(points, ring, n, reach_of(tolerance, n));
+    if from == ring.len() {
+        return from;
     }
     let limit = limit_of(tolerance, n);
-    let first = ring[0];
-    while i < ring.len() {
-        if is_beyond(off(points, n, first, ring[i]), limit) {
+    for i in from..ring.len() {
+        if is_beyond(off(points, n, ring[0], ring[i]), limit) {
             return i;
         }
-        i = next_off(points, ring, n, i + 1, reach);
     }
-    i
+    ring.len()
 }
 
 // 06 of a closed ring whose normal is n. Of four corners the second and the fourth are equally far off, and the third is not off:
 // where the second is within the reach, all are.
-pub fn first_uneven_closed(points: &[i32; 1536], ring: &[u16], tolerance: u16, n: Place) -> usize
-    requires coords { Coords points.now }
+pub fn first_uneven_closed(points: &Points, ring: &[u16], tolerance: u16, n: Place) -> usize
     requires known { Known ring.now }
     requires in_bounds { (1 ≤ length ring.now) × (is_unclosed ring.now ≡ false) × (tolerance ≤ 1000) }
-    requires n_value { as_point n ≡ normal (places (points_of points.now) ring.now) }
-    ensures { result ≡ uneven_at tolerance (as_point n) (places (points_of points.now) ring.now) }
+    requires n_value { as_point n ≡ normal (places (points_of points.now.flat) ring.now) }
+    ensures { result ≡ uneven_at tolerance (as_point n) (places (points_of points.now.flat) ring.now) }
 {
     if ring.len() == 5 {
         let first = ring[0];

@@ -2,46 +2,29 @@
 
 #![tactic(auto)]
 
-ghost use Rattle.std.specs.Prelude.{◌+◌, ◌<◌, ◌≤◌, ◌≡◌, true, length, take, drop};
+ghost use Rattle.std.specs.Prelude.{◌≡◌};
 ghost use Rattle.hexadecimal.specs.Hex.{is_hex_of, all_hex_of};
 
 // Whether a byte is a digit; without branches, so that a line is tested many bytes at a time.
+#[tactic(auto, using(std::proofs::lemmas::Bool::Decides::nat_tests), unfolding(crate::specs::Hex::is_hex_of))]
 fn is_hex(b: u8) -> bool
     ensures { result ≡ is_hex_of b }
 {
-    (48 <= b) & (b < 58) | (65 <= b) & (b < 71)
+    (b'0' <= b) & (b <= b'9') | (b'A' <= b) & (b <= b'F')
 }
 
-// Whether each byte of a short line is a digit.
-fn each_hex(line: &[u8]) -> bool
-    ensures { result ≡ all_hex_of line.now }
+// Whether each byte of a part of a line is a digit. The bytes of a part whose length is known beforehand are tested at once.
+fn each_hex(part: &[u8]) -> bool
+    ensures { result ≡ all_hex_of part.now }
 {
     let mut good = true;
-    let mut i = 0;
-    while i < line.len() {
-        let b = line[i];
-        good = good & is_hex(b);
-        i += 1;
+    for b in part {
+        good &= is_hex(*b);
     }
     good
 }
 
-// Whether sixteen bytes are digits: a number known beforehand, so that they are tested at once.
-fn sixteen_hex(line: &[u8], at: usize) -> bool
-    requires { at + 16 ≤ length line.now }
-    ensures { result ≡ all_hex_of (take 16 (drop at line.now)) }
-{
-    let mut good = true;
-    let mut i = 0;
-    while i < 16 {
-        let b = line[at + i];
-        good = good & is_hex(b);
-        i += 1;
-    }
-    good
-}
-
-// Whether every byte of a line is a digit: its last sixteen bytes, and those before them sixteen at a time.
+// Whether every byte of a line is a digit: sixteen bytes at a time, and at the end its last sixteen.
 pub fn all_hex(line: &[u8]) -> bool
     ensures { result ≡ all_hex_of line.now }
 {
@@ -49,11 +32,10 @@ pub fn all_hex(line: &[u8]) -> bool
         return each_hex(line);
     }
     let last = line.len() - 16;
-    let mut good = sixteen_hex(line, last);
-    let mut i = 0;
-    while i < last {
-        good = good & sixteen_hex(line, i);
-        i += 16;
+    for at in (0..last).step_by(16) {
+        if !each_hex(&line[at..at + 16]) {
+            return false;
+        }
     }
-    good
+    each_hex(&line[last..])
 }

@@ -1,180 +1,105 @@
 // Check 0E: whether two rings share a point. Boxes tell most rings and edges apart, before anything is multiplied.
-ghost use Rattle.std.specs.Prelude.{◌≡◌, ◌+◌, ◌-◌, ◌<◌, length};
+ghost use Rattle.std.specs.Prelude.{◌≡◌, ◌+◌, ◌-◌, length};
 ghost use Rattle.whole.specs.Lists.{any, any_two, steps};
 ghost use Rattle.whole.specs.held.Spans.{span};
-ghost use Rattle.space.specs.held.Points.{Coords, Known};
+ghost use Rattle.space.specs.held.Points.{Known};
 ghost use Rattle.plane.specs.Plane.{share};
 ghost use Rattle.plane.specs.held.Edges.{as_segment, Ends};
 ghost use Rattle.fan.specs.held.Fan.{spot_in};
-ghost use Rattle.rays.specs.held.Seen.{spots_in, Plane};
+ghost use Rattle.rays.specs.held.Seen.{spots_in};
 ghost use Rattle.holes.specs.Holes.{meet};
 ghost use Rattle.holes.specs.held.Boxes.{Bounded};
-ghost use Rattle.holes.specs.held.Rings.{Ring, Rings, Lies, spots_at};
+ghost use Rattle.holes.specs.held.Rings as Held;
+ghost use Rattle.holes.specs.held.Rings.{Ring, Lies, spots_at};
 
 use super::bounds;
 use super::bounds::Bounds;
+use fan::Plane;
 use plane::Edge;
-
-// The edge between points a and b, in the plane of coordinates j and k.
-fn edge_of(points: &[i32; 1536], a: u16, b: u16, j: usize, k: usize) -> Edge
-    requires coords { Coords points.now }
-    requires a_bound { (a < 512) × (b < 512) × Plane j k }
-    ensures { as_segment result ≡ (spot_in points.now j k a, spot_in points.now j k b) }
-{
-    let au = space::coordinate(points, a, j);
-    let av = space::coordinate(points, a, k);
-    let bu = space::coordinate(points, b, j);
-    let bv = space::coordinate(points, b, k);
-    Edge { au, av, bu, bv }
-}
+use ring::Rings;
+use space::Points;
 
 // Whether edge e and some edge of a ring, whose box is b, share a point.
-fn edge_meets(points: &[i32; 1536], ring: &[u16], j: usize, k: usize, e: Edge, b: Bounds) -> bool
-    requires coords { Coords points.now }
-    requires known { (Known ring.now) × (Plane j k) }
+fn edge_meets(points: &Points, ring: &[u16], plane: Plane, e: Edge, b: Bounds) -> bool
+    requires known { Known ring.now }
     requires ends { Ends (as_segment e) }
-    requires bounded { Bounded (spot_in points.now j k) ring.now (length ring.now) b }
-    ensures { result ≡ any (share (as_segment e)) (steps (spots_in points.now j k ring.now)) }
+    requires bounded { Bounded (spot_in points.now.flat plane.u plane.v) ring.now (length ring.now) b }
+    ensures { result ≡ any (share (as_segment e)) (steps (spots_in points.now.flat plane.u plane.v ring.now)) }
 {
     if bounds::beside(b, e) {
         return false;
     }
-    let n = ring.len();
-    let mut i: usize = 0;
-    while i + 1 < n {
-        let next = i + 1;
-        let c = ring[i];
-        let d = ring[next];
-        let f = edge_of(points, c, d, j, k);
+    for i in 0..ring.len().saturating_sub(1) {
+        let f = plane.edge(points, ring[i], ring[i + 1]);
         if plane::share(e, f) {
             return true;
         }
-        i = next;
     }
     false
 }
 
 // Whether some edge of ring r and some edge of ring s, whose box is b, do.
-fn rings_meet(points: &[i32; 1536], r: &[u16], s: &[u16], j: usize, k: usize, b: Bounds) -> bool
-    requires coords { Coords points.now }
-    requires known { (Known r.now) × (Known s.now) × (Plane j k) }
-    requires bounded { Bounded (spot_in points.now j k) s.now (length s.now) b }
-    ensures { result ≡ meet (spots_in points.now j k r.now) (spots_in points.now j k s.now) }
+fn rings_meet(points: &Points, r: &[u16], s: &[u16], plane: Plane, b: Bounds) -> bool
+    requires known { (Known r.now) × (Known s.now) }
+    requires bounded { Bounded (spot_in points.now.flat plane.u plane.v) s.now (length s.now) b }
+    ensures { result ≡ meet (spots_in points.now.flat plane.u plane.v r.now) (spots_in points.now.flat plane.u plane.v s.now) }
 {
-    let n = r.len();
-    let mut i: usize = 0;
-    while i + 1 < n {
-        let next = i + 1;
-        let c = r[i];
-        let d = r[next];
-        let e = edge_of(points, c, d, j, k);
-        if edge_meets(points, s, j, k, e, b) {
+    for i in 0..r.len().saturating_sub(1) {
+        let e = plane.edge(points, r[i], r[i + 1]);
+        if edge_meets(points, s, plane, e, b) {
             return true;
         }
-        i = next;
     }
     false
 }
 
 // Whether ring r, whose box is b, shares a point with ring q of the table.
-fn meets_ring(
-    points: &[i32; 1536],
-    entries: &[u16; 1024],
-    starts: &[u16; 1025],
-    q: usize,
-    r: &[u16],
-    j: usize,
-    k: usize,
-    b: Bounds,
-) -> bool
-    requires coords { Coords points.now }
-    requires ring { Ring entries.now starts.now q }
-    requires known { (Known r.now) × (Plane j k) }
-    requires bounded { Bounded (spot_in points.now j k) r.now (length r.now) b }
-    ensures { result ≡ meet (spots_in points.now j k r.now) (spots_at points.now j k entries.now starts.now q) }
+fn meets_ring(points: &Points, rings: &Rings, q: usize, r: &[u16], plane: Plane, b: Bounds) -> bool
+    requires ring { Ring rings.now.entries rings.now.starts q }
+    requires known { Known r.now }
+    requires bounded { Bounded (spot_in points.now.flat plane.u plane.v) r.now (length r.now) b }
+    ensures { result ≡ meet (spots_in points.now.flat plane.u plane.v r.now) (spots_at points.now.flat plane.u plane.v rings.now.entries rings.now.starts q) }
 {
-    let from = starts[q] as usize;
-    let to = starts[q + 1] as usize;
-    let all = &entries[..];
-    let ring = &all[from..to];
-    let c = bounds::bounds_of(points, ring, j, k);
+    let s = rings.ring(q);
+    let c = bounds::bounds_of(points, s, plane);
     if bounds::parted(b, c) {
         return false;
     }
-    rings_meet(points, r, ring, j, k, c)
+    rings_meet(points, r, s, plane, c)
 }
 
 // Whether ring r, whose box is found once, shares a point with one of the rings from p up to another.
-fn meets_one(
-    points: &[i32; 1536],
-    entries: &[u16; 1024],
-    starts: &[u16; 1025],
-    p: usize,
-    to: usize,
-    r: &[u16],
-    j: usize,
-    k: usize,
-) -> bool
-    requires coords { Coords points.now }
-    requires rings { Rings entries.now starts.now p to }
-    requires known { (Known r.now) × (Plane j k) }
-    ensures { result ≡ any (meet (spots_in points.now j k r.now)) (span (spots_at points.now j k entries.now starts.now) p (to - p)) }
+fn meets_one(points: &Points, rings: &Rings, p: usize, to: usize, r: &[u16], plane: Plane) -> bool
+    requires rings { Held.Rings rings.now.entries rings.now.starts p to }
+    requires known { Known r.now }
+    ensures { result ≡ any (meet (spots_in points.now.flat plane.u plane.v r.now)) (span (spots_at points.now.flat plane.u plane.v rings.now.entries rings.now.starts) p (to - p)) }
 {
-    let b = bounds::bounds_of(points, r, j, k);
-    let mut q = p;
-    while q < to {
-        if meets_ring(points, entries, starts, q, r, j, k, b) {
+    let b = bounds::bounds_of(points, r, plane);
+    for q in p..to {
+        if meets_ring(points, rings, q, r, plane, b) {
             return true;
         }
-        q += 1;
     }
     false
 }
 
 // Whether ring p of the table shares a point with one of the rings after it.
-fn meets_later(
-    points: &[i32; 1536],
-    entries: &[u16; 1024],
-    starts: &[u16; 1025],
-    p: usize,
-    to: usize,
-    j: usize,
-    k: usize,
-) -> bool
-    requires coords { Coords points.now }
-    requires ring { (Ring entries.now starts.now p) × (Rings entries.now starts.now (p + 1) to) }
-    requires plane { Plane j k }
-    ensures { result ≡ any (meet (spots_at points.now j k entries.now starts.now p)) (span (spots_at points.now j k entries.now starts.now) (p + 1) (to - (p + 1))) }
+fn meets_later(points: &Points, rings: &Rings, p: usize, to: usize, plane: Plane) -> bool
+    requires { (Ring rings.now.entries rings.now.starts p) × (Held.Rings rings.now.entries rings.now.starts (p + 1) to) }
+    ensures { result ≡ any (meet (spots_at points.now.flat plane.u plane.v rings.now.entries rings.now.starts p)) (span (spots_at points.now.flat plane.u plane.v rings.now.entries rings.now.starts) (p + 1) (to - (p + 1))) }
 {
-    let from = starts[p] as usize;
-    let next = p + 1;
-    let end = starts[next] as usize;
-    let all = &entries[..];
-    let ring = &all[from..end];
-    meets_one(points, entries, starts, next, to, ring, j, k)
+    meets_one(points, rings, p + 1, to, rings.ring(p), plane)
 }
 
-// Whether two of the rings from one up to another share a point, in the plane of coordinates j and k.
-pub fn two_meet(
-    points: &[i32; 1536],
-    entries: &[u16; 1024],
-    starts: &[u16; 1025],
-    from: usize,
-    to: usize,
-    j: usize,
-    k: usize,
-) -> bool
-    requires coords { Coords points.now }
-    requires lies { Lies entries.now starts.now from to }
-    requires plane { Plane j k }
-    ensures { result ≡ any_two meet (span (spots_at points.now j k entries.now starts.now) from (to - from)) }
+// Whether two of the rings from one up to another share a point: each is held against those after it, of which the last has none.
+pub fn two_meet(points: &Points, rings: &Rings, from: usize, to: usize, plane: Plane) -> bool
+    requires { Lies rings.now.entries rings.now.starts from to }
+    ensures { result ≡ any_two meet (span (spots_at points.now.flat plane.u plane.v rings.now.entries rings.now.starts) from (to - from)) }
 {
-    let mut p = from;
-    while p + 1 < to {
-        if meets_later(points, entries, starts, p, to, j, k) {
+    for p in from..to - 1 {
+        if meets_later(points, rings, p, to, plane) {
             return true;
         }
-        p += 1;
     }
     false
 }

@@ -1,5 +1,5 @@
--- 06, 0E and 0F in order: what is kept where the first n have passed and the next fails; and what is kept in all.
-use Prim.Native.Nat.{ℕ, ◌+◌, ◌*◌, ◌≤◌, ◌<◌}
+-- 06, 0E and 0F in order: what is told where the first n have passed and the next fails; and what is told in all.
+use Prim.Native.Nat.{ℕ, ◌≤◌, ◌<◌}
 use native.Mathlib.Omega.{arith}
 use mathlib.Core.Path.{◌≡◌, sym, ap, ◌∙◌, subst}
 use mathlib.Core.Bool.{Bool, true, false}
@@ -20,10 +20,7 @@ use Rattle.ring.specs.Polygon.{Polygon, rings_of, entries_from}
 use Rattle.holes.specs.Holes.{seen, component, component_of, is_shared, is_misplaced_of}
 use Rattle.polygon.specs.declared.Finding.{Finding}
 use Rattle.polygon.specs.declared.Finding.TheVariants.{Sound, Uneven, Shared, Misplaced}
-use Rattle.polygon.specs.Ring.{finding_number_of, finding_position_of}
-use Rattle.polygon.specs.held.Findings.{kept_finding}
 use Rattle.polygon.specs.laws.Position.{places-length}
-use Rattle.polygon.specs.laws.Rows.{kept_sound, kept_fault}
 use Rattle.inner.specs.Finding.{finding}
 use Rattle.inner.specs.laws.Rows.{rings_finding}
 use Rattle.inner.specs.held.LastChecks.{last_checks}
@@ -39,8 +36,8 @@ module _ (tolerance : ℕ) (points : List Point) (p : Polygon) where
   abbrev ps : List Point
   ps = places points (entries_from p)
 
-  abbrev told : ℕ
-  told = kept_finding (first Sound (rows (last_checks tolerance points p)))
+  abbrev told : Finding
+  told = first Sound (rows (last_checks tolerance points p))
 
   abbrev uneven : Bool × Finding
   uneven = (is_uneven tolerance n ps, Uneven (uneven_at tolerance n ps))
@@ -51,36 +48,36 @@ module _ (tolerance : ℕ) (points : List Point) (p : Polygon) where
   abbrev misplaced : Bool
   misplaced = is_misplaced_of (seen axis points p.outer) (map (seen axis points) p.inner) (component axis n) (map (component_of axis points) p.inner)
 
-  pub found_uneven : {i : ℕ} → i ≡ uneven_at tolerance n ps → i < length (entries_from p) → 16 * i + 6 ≡ told
-  unfolding last_checks kept_finding finding_number_of finding_position_of
+  pub found_uneven : {i : ℕ} → i ≡ uneven_at tolerance n ps → i < length (entries_from p) → Uneven i ≡ told
+  unfolding last_checks
   found_uneven {i} e h =
-      ap (λ (i : ℕ). kept_finding (Uneven i)) e
-      ∙ ap kept_finding (sym (first_is Sound [] (is_uneven tolerance n ps) (Uneven (uneven_at tolerance n ps)) _ none (uneven_is tolerance n ps ∙ lt-ltb (uneven_at tolerance n ps) (length ps) (subst (λ (j : ℕ). j < length ps) e (omega (arith, places-length points (entries_from p)))))))
+      ap Uneven e
+      ∙ sym (first_is Sound [] (is_uneven tolerance n ps) (Uneven (uneven_at tolerance n ps)) _ none (uneven_is tolerance n ps ∙ lt-ltb (uneven_at tolerance n ps) (length ps) (subst (λ (j : ℕ). j < length ps) e (omega (arith, places-length points (entries_from p))))))
 
   pub even_is : {i : ℕ} → i ≡ uneven_at tolerance n ps → length (entries_from p) ≤ i → is_uneven tolerance n ps ≡ false
   even_is {i} e h = uneven_is tolerance n ps ∙ le-ltb (uneven_at tolerance n ps) (length ps) (subst (λ (j : ℕ). length ps ≤ j) e (omega (arith, places-length points (entries_from p))))
 
   module _ (even : is_uneven tolerance n ps ≡ false) where
-    pub found-shared : shared ≡ true → 14 ≡ told
-    unfolding last_checks kept_finding finding_number_of finding_position_of
-    found-shared h = ap kept_finding (sym (first_is Sound (uneven ∷ []) shared Shared _ (more even none) h))
+    pub found-shared : shared ≡ true → Shared ≡ told
+    unfolding last_checks
+    found-shared h = sym (first_is Sound (uneven ∷ []) shared Shared _ (more even none) h)
 
     module _ (apart : shared ≡ false) where
-      pub found-misplaced : misplaced ≡ true → 15 ≡ told
-      unfolding last_checks kept_finding finding_number_of finding_position_of
-      found-misplaced h = ap kept_finding (sym (first_is Sound (uneven ∷ (shared, Shared) ∷ []) misplaced Misplaced [] (more even (more apart none)) h))
+      pub found-misplaced : misplaced ≡ true → Misplaced ≡ told
+      unfolding last_checks
+      found-misplaced h = sym (first_is Sound (uneven ∷ (shared, Shared) ∷ []) misplaced Misplaced [] (more even (more apart none)) h)
 
-      pub found_none : misplaced ≡ false → 0 ≡ told
-      unfolding last_checks kept_finding finding_number_of finding_position_of
-      found_none h = ap kept_finding (sym (first-none Sound (last_checks tolerance points p) (more even (more apart (more h none)))))
+      pub found_none : misplaced ≡ false → Sound ≡ told
+      unfolding last_checks
+      found_none h = sym (first-none Sound (last_checks tolerance points p) (more even (more apart (more h none))))
 
   -- ---- in all
-  module _ {k : ℕ} (e : k ≡ kept_finding (rings_finding points 0 (rings_of p))) where
-    pub kept-early : (k ≡ 0 → ⊥) → k ≡ kept_finding (finding tolerance points p)
-    kept-early h = e ∙ ap kept_finding (sym (finding-early tolerance points p (kept_fault (rings_finding points 0 (rings_of p)) (λ z. h (e ∙ z)))))
+  module _ {f : Finding} (e : f ≡ rings_finding points 0 (rings_of p)) where
+    pub told-early : (f ≡ Sound → ⊥) → f ≡ finding tolerance points p
+    told-early h = e ∙ sym (finding-early tolerance points p (λ z. h (e ∙ z)))
 
-    pub all_sound : k ≡ 0 → rings_finding points 0 (rings_of p) ≡ Sound
-    all_sound h = kept_sound (rings_finding points 0 (rings_of p)) (sym e ∙ h)
+    pub all_sound : f ≡ Sound → rings_finding points 0 (rings_of p) ≡ Sound
+    all_sound h = sym e ∙ h
 
-    pub kept-late : k ≡ 0 → {r : ℕ} → r ≡ told → r ≡ kept_finding (finding tolerance points p)
-    kept-late h f = f ∙ ap kept_finding (sym (finding_late tolerance points p (all_sound h)))
+    pub told-late : f ≡ Sound → {r : Finding} → r ≡ told → r ≡ finding tolerance points p
+    told-late h g = g ∙ sym (finding_late tolerance points p (all_sound h))

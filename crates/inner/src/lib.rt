@@ -9,7 +9,7 @@ ghost use Rattle.std.specs.Prelude.{◌≡◌, true, ◌≤◌, ◌<◌, length}
 ghost use Rattle.whole.specs.Lists.{first};
 ghost use Rattle.whole.specs.held.Rows.{rows};
 ghost use Rattle.space.specs.Space.{places};
-ghost use Rattle.space.specs.held.Points.{points_of, Coords, as_point, Near};
+ghost use Rattle.space.specs.held.Points.{points_of, as_point, Near};
 ghost use Rattle.normal.specs.Normal.{normal};
 ghost use Rattle.even.specs.Even.{uneven_at};
 ghost use Rattle.ring.specs.Polygon.{one, rings_of, entries_from};
@@ -17,146 +17,115 @@ ghost use Rattle.ring.specs.held.Rings.{ring_at, polygon_of};
 ghost use Rattle.holes.specs.held.Rings.{Ring, Lies};
 ghost use Rattle.polygon.specs.declared.Finding.TheVariants.{Sound};
 ghost use Rattle.polygon.specs.Ring.{finding_number_of, finding_position_of};
-ghost use Rattle.polygon.specs.held.Findings.{kept_finding};
 ghost use Rattle.polygon.specs.held.Position.{has_position_of};
 ghost use Rattle.inner.specs.Finding.{finding, part};
 ghost use Rattle.inner.specs.laws.Rows.{rings_finding};
 ghost use Rattle.inner.specs.held.LastChecks.{last_checks};
 
-use polygon::Look;
-use space::Place;
+use polygon::{Finding, Look};
+use ring::Rings;
+use space::{Place, Points};
 
 // The normal of ring q.
-fn normal_of(points: &[i32; 1536], entries: &[u16; 1024], starts: &[u16; 1025], q: usize) -> Place
-    requires coords { Coords points.now }
-    requires ring { (Ring entries.now starts.now q) × (1 ≤ length (ring_at entries.now starts.now q)) }
-    ensures { as_point result ≡ normal (places (points_of points.now) (ring_at entries.now starts.now q)) }
+fn normal_of(points: &Points, rings: &Rings, q: usize) -> Place
+    requires ring { (Ring rings.now.entries rings.now.starts q) × (1 ≤ length (ring_at rings.now.entries rings.now.starts q)) }
+    ensures { as_point result ≡ normal (places (points_of points.now.flat) (ring_at rings.now.entries rings.now.starts q)) }
 {
-    let from = starts[q] as usize;
-    let to = starts[q + 1] as usize;
-    let all = &entries[..];
-    normal::normal(points, &all[from..to])
+    let ring = rings.ring(q);
+    normal::normal(points, ring)
 }
 
 // 06 of all entries, with a normal n: the entries of a polygon's rings stand one after another.
 fn first_uneven(
-    points: &[i32; 1536],
-    entries: &[u16; 1024],
-    starts: &[u16; 1025],
+    points: &Points,
+    rings: &Rings,
     from: usize,
     to: usize,
     tolerance: u16,
     n: Place,
 ) -> usize
-    requires coords { Coords points.now }
-    requires lies { Lies entries.now starts.now from to }
-    requires in_bounds { (1 ≤ length (ring_at entries.now starts.now from)) × (tolerance ≤ 1000) }
+    requires lies { Lies rings.now.entries rings.now.starts from to }
+    requires in_bounds { (1 ≤ length (ring_at rings.now.entries rings.now.starts from)) × (tolerance ≤ 1000) }
     requires near { Near 10160000000000 (as_point n) }
-    ensures { result ≡ uneven_at tolerance (as_point n) (places (points_of points.now) (entries_from (polygon_of entries.now starts.now from to))) }
+    ensures { result ≡ uneven_at tolerance (as_point n) (places (points_of points.now.flat) (entries_from (polygon_of rings.now.entries rings.now.starts from to))) }
 {
-    let first = starts[from] as usize;
-    let last = starts[to] as usize;
-    let all = &entries[..];
-    even::first_uneven(points, &all[first..last], tolerance, n)
+    let first = rings.starts[from] as usize;
+    let last = rings.starts[to] as usize;
+    even::first_uneven(points, &rings.entries[first..last], tolerance, n)
 }
 
 // 06, 0E and 0F, in this order, of a polygon whose rings all pass 01 to 05: the first that fails.
-fn last_three(
-    points: &[i32; 1536],
-    entries: &[u16; 1024],
-    starts: &[u16; 1025],
-    from: usize,
-    to: usize,
-    tolerance: u16,
-) -> u16
-    requires coords { Coords points.now }
-    requires lies { Lies entries.now starts.now from to }
+fn last_three(points: &Points, rings: &Rings, from: usize, to: usize, tolerance: u16) -> Finding
+    requires lies { Lies rings.now.entries rings.now.starts from to }
     requires tolerance_bound { tolerance ≤ 1000 }
-    requires to_value { rings_finding (points_of points.now) 0 (rings_of (polygon_of entries.now starts.now from to)) ≡ Sound }
-    ensures { result ≡ kept_finding (first Sound (rows (last_checks tolerance (points_of points.now) (polygon_of entries.now starts.now from to)))) }
+    requires to_value { rings_finding (points_of points.now.flat) 0 (rings_of (polygon_of rings.now.entries rings.now.starts from to)) ≡ Sound }
+    ensures found { result ≡ first Sound (rows (last_checks tolerance (points_of points.now.flat) (polygon_of rings.now.entries rings.now.starts from to))) }
+    ensures few { finding_position_of result ≤ 1024 }
 {
-    let n = normal_of(points, entries, starts, from);
-    let uneven = first_uneven(points, entries, starts, from, to, tolerance, n);
-    if uneven < rings::entries_of(starts, from, to) {
-        return polygon::five::kept_at(6, uneven);
+    let n = normal_of(points, rings, from);
+    let uneven = first_uneven(points, rings, from, to, tolerance, n);
+    if uneven < rings::entries_of(rings, from, to) {
+        return Finding::Uneven(uneven as u16);
     }
     let axis = axes::largest_axis(n);
-    if holes::is_shared(points, entries, starts, from, to, axis) {
-        return 14;
+    if holes::is_shared(points, rings, from, to, axis) {
+        return Finding::Shared;
     }
-    if misplaced::is_misplaced(points, entries, starts, from, to, n, axis) {
-        return 15;
+    if misplaced::is_misplaced(points, rings, from, to, n, axis) {
+        return Finding::Misplaced;
     }
-    0
+    Finding::Sound
 }
 
 // A polygon's finding and its part, where it has one ring, that of number q.
-fn look_at_one(
-    points: &[i32; 1536],
-    entries: &[u16; 1024],
-    starts: &[u16; 1025],
-    q: usize,
-    tolerance: u16,
-) -> Look
-    requires coords { Coords points.now }
-    requires ring { Ring entries.now starts.now q }
+fn look_at_one(points: &Points, rings: &Rings, q: usize, tolerance: u16) -> Look
+    requires ring { Ring rings.now.entries rings.now.starts q }
     requires tolerance_bound { tolerance ≤ 1000 }
-    ensures kept_value { result.kept ≡ kept_finding (finding tolerance (points_of points.now) (one (ring_at entries.now starts.now q))) }
-    ensures part_value { result.part ≡ part (points_of points.now) (one (ring_at entries.now starts.now q)) }
+    ensures finding_value { result.finding ≡ finding tolerance (points_of points.now.flat) (one (ring_at rings.now.entries rings.now.starts q)) }
+    ensures few { finding_position_of result.finding ≤ 1152 }
+    ensures part_value { result.part ≡ part (points_of points.now.flat) (one (ring_at rings.now.entries rings.now.starts q)) }
 {
-    let from = starts[q] as usize;
-    let to = starts[q + 1] as usize;
-    let all = &entries[..];
-    polygon::look_at(points, &all[from..to], tolerance)
+    let ring = rings.ring(q);
+    polygon::look_at(points, ring, tolerance)
 }
 
 // The finding and the part of the polygon of the rings `from` up to `to`: 01 to 05 ring by ring, then what is told of them together.
-pub fn look_at(
-    points: &[i32; 1536],
-    entries: &[u16; 1024],
-    starts: &[u16; 1025],
-    from: usize,
-    to: usize,
-    tolerance: u16,
-) -> Look
-    requires coords { Coords points.now }
-    requires lies { Lies entries.now starts.now from to }
+pub fn look_at(points: &Points, rings: &Rings, from: usize, to: usize, tolerance: u16) -> Look
+    requires lies { Lies rings.now.entries rings.now.starts from to }
     requires tolerance_bound { tolerance ≤ 1000 }
-    ensures kept_value { result.kept ≡ kept_finding (finding tolerance (points_of points.now) (polygon_of entries.now starts.now from to)) }
-    ensures part_value { result.part ≡ part (points_of points.now) (polygon_of entries.now starts.now from to) }
+    ensures finding_value { result.finding ≡ finding tolerance (points_of points.now.flat) (polygon_of rings.now.entries rings.now.starts from to) }
+    ensures few { finding_position_of result.finding ≤ 1152 }
+    ensures part_value { result.part ≡ part (points_of points.now.flat) (polygon_of rings.now.entries rings.now.starts from to) }
 {
     if to == from + 1 {
-        return look_at_one(points, entries, starts, from, tolerance);
+        return look_at_one(points, rings, from, tolerance);
     }
-    let early = rings::look_at_rings(points, entries, starts, from, to);
-    let kept = early.kept;
-    let part = early.part;
-    if kept != 0 {
-        return Look { kept, part };
+    let early = rings::look_at_rings(points, rings, from, to);
+    match early.finding {
+        Finding::Sound => {}
+        _ => return early,
     }
-    let kept = last_three(points, entries, starts, from, to, tolerance);
-    Look { kept, part }
+    let finding = last_three(points, rings, from, to, tolerance);
+    Look { finding, ..early }
 }
 
 // Where the finding is met whose number is known: of 03, 05 and 06 only that one is looked for.
 pub fn position_of(
-    points: &[i32; 1536],
-    entries: &[u16; 1024],
-    starts: &[u16; 1025],
+    points: &Points,
+    rings: &Rings,
     from: usize,
     to: usize,
     tolerance: u16,
     number: u16,
 ) -> usize
-    requires coords { Coords points.now }
-    requires lies { Lies entries.now starts.now from to }
+    requires lies { Lies rings.now.entries rings.now.starts from to }
     requires tolerance_bound { tolerance ≤ 1000 }
-    requires number_value { (number ≡ finding_number_of (finding tolerance (points_of points.now) (polygon_of entries.now starts.now from to))) × (has_position_of (finding tolerance (points_of points.now) (polygon_of entries.now starts.now from to)) ≡ true) }
-    ensures { result ≡ finding_position_of (finding tolerance (points_of points.now) (polygon_of entries.now starts.now from to)) }
+    requires number_value { (number ≡ finding_number_of (finding tolerance (points_of points.now.flat) (polygon_of rings.now.entries rings.now.starts from to))) × (has_position_of (finding tolerance (points_of points.now.flat) (polygon_of rings.now.entries rings.now.starts from to)) ≡ true) }
+    ensures { result ≡ finding_position_of (finding tolerance (points_of points.now.flat) (polygon_of rings.now.entries rings.now.starts from to)) }
 {
     if number == 6 {
-        let outer = normal_of(points, entries, starts, from);
-        return first_uneven(points, entries, starts, from, to, tolerance, outer);
+        let outer = normal_of(points, rings, from);
+        return first_uneven(points, rings, from, to, tolerance, outer);
     }
-    met::first_met(points, entries, starts, from, to, number)
+    met::first_met(points, rings, from, to, number)
 }

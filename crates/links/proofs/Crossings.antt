@@ -1,31 +1,19 @@
 -- The tables of corners across from corners: what a word writes, and a pair, and that all pairs together write what they join.
 use Prim.Native.Nat.{ℕ, ◌+◌, ◌/◌, ◌%◌, ◌≤◌, ◌<◌}
-use native.Mathlib.Decide.{ℕ_discrete, dec_lt}
-use native.Mathlib.Nat.{not-suc-le-zero}
+use native.Mathlib.Decide.{ℕ_discrete}
 use native.Mathlib.Omega.{arith}
 use mathlib.Core.Path.{◌≡◌, refl, sym, ap, subst, ◌∙◌}
 use mathlib.Core.Logic.{◌⊎◌, inl, inr, ⊎_elim, ◌≢◌, by_cases}
 use mathlib.Core.List.{List}
-use lib.ListN.{length, get_or, set, length-set, get_or-eq_default}
+use lib.ListN.{length, get_or, set, length-set}
 use Rattle.words.specs.held.Words.{step_of, next_of, node_of, Mate}
 use Rattle.reach.specs.held.Marking.{Joined}
-use Rattle.links.specs.held.Linking.{Joins, Nodes, Selves, Links, Lone, Crossed}
+use Rattle.links.specs.held.Linking.{Joins, Nodes, Links, Lone, Crossed}
 use Rattle.reach.specs.laws.Marks.{at_set}
 use Rattle.words.specs.laws.Mates.{mate-up, mate-down, mate_one}
 use Rattle.reach.specs.laws.Joined.{mate-joined}
 use Rattle.links.proofs.Ends.{End, out_end, inn_end, step-node, next-node, out_end_lem, inn_end_lem, side, node_small}
 use Rattle.links.proofs.Corners.{joins_at}
-
--- one more entry of a table of its own places
-module _ (t : List ℕ) (i : ℕ) (z : length t ≡ 1024) (s : (k : ℕ) → k < i → get_or t k 0 ≡ k) where
-  pub selves_more : i < 1024 → (length (set t i i) ≡ 1024) × ((k : ℕ) → k < i + 1 → get_or (set t i i) k 0 ≡ k)
-  selves_more h = (simp length-set z, λ k lt. ⊎_elim (λ (w : (k ≡ i) × (get_or (set t i i) k 0 ≡ i)). w.1 ∙ sym w.0) (λ (w : (k ≢ i) × (get_or (set t i i) k 0 ≡ get_or t k 0)). w.1 ∙ s k (before k lt w.0)) (at_set t i i k (omega arith)))
-    where
-      before : (k : ℕ) → k < i + 1 → k ≢ i → k < i
-      before k lt n = omega arith
-
-  pub selves_done : 1024 ≤ i → Selves t
-  selves_done ge = record { size = z; same = λ p h. s p (omega arith) }
 
 -- q is what a word whose g is p, and the other of its pair, have for a table of f
 pub record Noted (g : ℕ → ℕ) (f : ℕ → ℕ → ℕ) (l : List ℕ) (p q : ℕ) : Type 0 where
@@ -41,19 +29,6 @@ pub record Noting (g : ℕ → ℕ) (f : ℕ → ℕ → ℕ) (l t : List ℕ) (
   pub nodes : Nodes t
   pub sound : (p q : ℕ) → p < 1024 → get_or t p 0 ≡ q → (p ≡ q) ⊎ Noted g f l p q
   pub whole : Lone g l → (j k : ℕ) → j < i → j < length l → Mate (length l) j k → get_or t (g (get_or l j 0)) 0 ≡ f (get_or l j 0) (get_or l k 0)
-
-pub note-none : (g : ℕ → ℕ) (f : ℕ → ℕ → ℕ) (l t : List ℕ) → Selves t → Noting g f l t 0
-note-none g f l t s = record {
-  nodes = record { size = s.size; small = λ p. small p };
-  sound = λ p q h e. inl (sym (s.same p h) ∙ e);
-  whole = λ o j k h. absurd (not-suc-le-zero h);
-}
-  where
-    beyond : (p : ℕ) → (p < 1024 → ⊥) → get_or t p 0 ≡ 0
-    beyond p ge = get_or-eq_default t 0 (omega (arith, s.size))
-
-    small : (p : ℕ) → get_or t p 0 < 1024
-    small p = by_cases (dec_lt p 1024) (λ lt. omega (arith, s.same p lt)) (λ ge. omega (arith, beyond p ge))
 
 -- where two words are one and stand in one pair, so are the others of their pairs
 mates_same : (l : List ℕ) (i j k k' : ℕ) → j < length l → i < length l → Mate (length l) i k → Mate (length l) j k' → get_or l i 0 ≡ get_or l j 0 → i / 2 ≡ j / 2 → get_or l k 0 ≡ get_or l k' 0

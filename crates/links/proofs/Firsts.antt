@@ -1,30 +1,25 @@
 -- One corner of each point with the marks that grow from these, and the lowest point with a corner that has no mark.
 use Prim.Native.Nat.{ℕ, ◌+◌, ◌/◌, ◌%◌, ◌≤◌, ◌<◌}
-use native.Mathlib.Nat.{not-suc-le-zero, le_refl, lt_irrefl}
+use native.Mathlib.Nat.{le_refl}
 use native.Mathlib.Decide.{ℕ_discrete, dec_lt}
 use native.Mathlib.Omega.{arith}
+use Rattle.std.specs.Prelude.{min, Option, None, Some, MatchOption, unwrap_or}
 use mathlib.Core.Path.{◌≡◌, refl, sym, ap, subst, ◌∙◌}
 use mathlib.Core.Logic.{◌⊎◌, inl, inr, ⊎_elim, by_cases}
+use mathlib.Core.Bool.{Bool}
 use mathlib.Core.List.{List}
 use borrow.Author.Count.{below_more}
 use lib.ListN.{length, get_or, set, length-set}
 use Rattle.words.specs.held.Words.{key_from, step_of, node_of}
 use Rattle.reach.specs.Reach.{start}
-use Rattle.reach.specs.held.Marking.{Marked, Marks, Blank, Joint, Grown}
-use Rattle.reach.specs.laws.Joins.{reach_map, joint-grown, grown_none}
-use Rattle.whole.specs.Least.{LeastBelow}
+use Rattle.reach.specs.held.Marking.{Marked, Marks, Joint, Grown}
+use Rattle.reach.specs.laws.Joins.{reach_map, joint-grown}
 use Rattle.reach.specs.laws.Marks.{mark_new, mark_stays, mark_either, mark-bits}
 use Rattle.links.specs.held.Linking.{Joins, Cornered, point_of, Met, Begun, Cut}
 use Rattle.links.proofs.Ends.{End, step-node, out_end_lem, out_end}
 use Rattle.links.proofs.Corners.{Starts, starts_small, node-starts, pair_joins, joins_even}
 
 -- ---- one end of an edge
-module _ (v x y : ℕ) (s m s' m' : List ℕ) (r : ℕ) where
-  pub met_old : Marked s v → s' ≡ s → Joint x y m m' r → Met v x y s m s' m'
-  met_old k e j = record { to = r; old = λ _. (e, j); new = λ d. absurd (d k) }
-
-  pub met_new : (Marked s v → ⊥) → s' ≡ set s v 1 → Joint x y (set m x 1) m' r → Met v x y s m s' m'
-  met_new d e j = record { to = r; old = λ k. absurd (d k); new = λ _. (e, j) }
 
 -- the points seen are those of the first corners, one corner each, and from these the marks have grown
 pub record Seeding (es l s m : List ℕ) : Type 0 where
@@ -49,7 +44,7 @@ module _ (es l s m : List ℕ) (v x y : ℕ) (m' : List ℕ) (size : length s �
   in_y : y < 1024
   in_y = starts_small l y start-y
 
-  seen_old : (r : ℕ) → Marked s v → Joint x y m m' r → Seen es l v s s m'
+  seen_old : (r : Bool) → Marked s v → Joint x y m m' r → Seen es l v s s m'
   seen_old r k j = record {
     seeding = record {
       from = b.from;
@@ -65,7 +60,7 @@ module _ (es l s m : List ℕ) (v x y : ℕ) (m' : List ℕ) (size : length s �
   }
 
   -- x is the first corner at v
-  module _ (r : ℕ) (d : Marked s v → ⊥) (j : Joint x y (set m x 1) m' r) where
+  module _ (r : Bool) (d : Marked s v → ⊥) (j : Joint x y (set m x 1) m' r) where
     long-s : v < length s
     long-s = omega arith
 
@@ -115,26 +110,6 @@ module _ (es l s m : List ℕ) (v x y : ℕ) (m' : List ℕ) (size : length s �
 pub record Beginning (es l s m : List ℕ) (i : ℕ) : Type 0 where
   pub seeding : Seeding es l s m
   pub first : (j : ℕ) → j < i → j < length l → Marked s (point_of es (get_or l j 0))
-
-pub begin-none : (es l s m : List ℕ) → Blank 1024 s → Blank 1024 m → Beginning es l s m 0
-begin-none es l s m a b = record {
-  seeding = record {
-    from = m;
-    size = b.size;
-    node = λ e h. absurd (bare e h);
-    shown = λ v h. absurd (unseen v h);
-    hidden = λ e h. absurd (bare e h);
-    lone = λ e f h _ _. absurd (bare e h);
-    grown = grown_none (Joins 1 2 l) m;
-  };
-  first = λ j h. absurd (not-suc-le-zero h);
-}
-  where
-    bare : (e : ℕ) → Marked m e → ⊥
-    bare e h = omega (arith, b.bare e)
-
-    unseen : (e : ℕ) → Marked s e → ⊥
-    unseen e h = omega (arith, a.bare e)
 
 module _ (es l : List ℕ) (i : ℕ) (c : Cornered es l) (even : i % 2 ≡ 0) (lt : i + 1 < length l) where
   here : i < length l
@@ -193,9 +168,6 @@ pub record Cutting (es l m : List ℕ) (best i : ℕ) : Type 0 where
   pub found : best < 65536 → Cut es l m best
   pub below : (j : ℕ) → j < i → get_or m (step_of (get_or l j 0)) 0 ≡ 0 → best ≤ get_or es (step_of (get_or l j 0)) 0
 
-pub cut-none : (es l m : List ℕ) → Cutting es l m 65536 0
-cut-none es l m = record { within = le_refl 65536; found = λ h. absurd (lt_irrefl 65536 h); below = λ j h. absurd (not-suc-le-zero h) }
-
 module _ (es l m : List ℕ) (best i : ℕ) (s : Cutting es l m best i) (h : i < length l) where
   pub cut_skip : (get_or m (step_of (get_or l i 0)) 0 ≡ 0 → best ≤ get_or es (step_of (get_or l i 0)) 0) → Cutting es l m best (i + 1)
   cut_skip d = record {
@@ -211,13 +183,6 @@ module _ (es l m : List ℕ) (best i : ℕ) (s : Cutting es l m best i) (h : i <
     below = below_more (λ (j : ℕ). get_or m (step_of (get_or l j 0)) 0 ≡ 0 → get_or es (step_of (get_or l i 0)) 0 ≤ get_or es (step_of (get_or l j 0)) 0) i (λ j jl g. omega (arith, s.below j jl g)) (λ _. le_refl _);
   }
 
-pub cut-least : (es l m : List ℕ) (best i : ℕ) → Cutting es l m best i → length l ≤ i → ((k : ℕ) → k < length l → get_or es (step_of (get_or l k 0)) 0 < 65536) → LeastBelow (Cut es l m) 65536 best
-cut-least es l m best i s h small = record {
-  within = s.within;
-  found = λ lt. record { holds = s.found lt; first = λ v u. omega (arith, s.below u.at (omega (arith, u.within)) u.bare, u.point) };
-  missing = λ ge v u. omega (arith, s.below u.at (omega (arith, u.within)) u.bare, small u.at u.within);
-}
-
 -- the same with the step's corner and its point under names of their own
 module _ (es l m : List ℕ) (best i x v : ℕ) (q : x ≡ step_of (get_or l i 0)) (z : v ≡ get_or es x 0) (s : Cutting es l m best i) (h : i < length l) where
   pub cut_skip_at : (get_or m x 0 ≡ 0 → best ≤ v) → Cutting es l m best (i + 1)
@@ -225,3 +190,16 @@ module _ (es l m : List ℕ) (best i x v : ℕ) (q : x ≡ step_of (get_or l i 0
 
   pub cut-take_at : get_or m x 0 ≡ 0 → v < best → Cutting es l m v (i + 1)
   cut-take_at e lt = rw (z, q) (cut-take es l m best i s h (rw q at e) (rw (z, q) at lt))
+
+  -- the lower of the best and the point is the next best
+  pub cut_lower_at : get_or m x 0 ≡ 0 → (r : ℕ) → r ≡ min best v → Cutting es l m r (i + 1)
+  cut_lower_at e r f =
+      by_cases
+      (dec_lt v best)
+      (λ lt. subst (λ (k : ℕ). Cutting es l m k (i + 1)) (omega arith) (cut-take_at e lt))
+      (λ ge. subst (λ (k : ℕ). Cutting es l m k (i + 1)) (omega arith) (cut_skip_at (λ _. omega arith)))
+
+-- the lower of what was found, if anything was, and one number more
+pub lower : (o : Option ℕ) (v r : ℕ) → MatchOption o (r ≡ v) (λ b. r ≡ min b v) → v < 65536 → r ≡ min (unwrap_or o 65536) v
+lower None v r e h = omega arith
+lower (Some b) v r e h = e

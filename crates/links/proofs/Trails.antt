@@ -2,7 +2,7 @@
 use Prim.Native.Nat.{ℕ, ◌+◌, ◌≤◌, ◌<◌, zero-le}
 use native.Mathlib.Decide.{ℕ_discrete}
 use native.Mathlib.Omega.{arith}
-use mathlib.Core.Path.{◌≡◌, refl, sym, subst, ◌∙◌}
+use mathlib.Core.Path.{◌≡◌, refl, sym, subst}
 use mathlib.Core.Logic.{◌⊎◌, inl, inr, ⊎_elim, by_cases}
 use mathlib.Core.List.{List}
 use lib.ListN.{length, get_or, set, length-set}
@@ -13,13 +13,6 @@ use Rattle.links.specs.held.Linking.{Nodes, Links, Even, Lone, Crossed, Onward, 
 use Rattle.reach.specs.laws.Marks.{zeros_lt, marked_small, mark_new, mark_stays, mark_either, mark-bits}
 use Rattle.reach.specs.laws.Joins.{reach_map}
 use Rattle.links.proofs.Corners.{joins_even}
-
--- of two links the one not come by
-pub onward-back : {x y p : ℕ} → x ≡ p → Onward x y p y
-onward-back e = record { either = inr refl; other = λ _ q j. ⊎_elim (λ z. inl (sym z ∙ e)) (λ z. inr (sym z)) j }
-
-pub onward-ahead : {x y p : ℕ} → (x ≡ p → ⊥) → Onward x y p x
-onward-ahead d = record { either = inl refl; other = λ w q j. ⊎_elim (λ z. inr (sym z)) (λ z. inl (⊎_elim (λ e. absurd (d e)) (λ e. sym z ∙ e) w)) j }
 
 -- before each turn of a walk: p has a mark, its link to c comes next, and no other link leads out of the new marks
 pub record Walking (out inn m₀ : List ℕ) (to : ℕ) (m : List ℕ) (p c : ℕ) : Type 0 where
@@ -84,17 +77,6 @@ module _ (out inn m₀ : List ℕ) (to : ℕ) (m : List ℕ) (p c : ℕ) (s : Wa
       begun = inl (⊎_elim (λ (h : Marked m to). stays to h) (λ (q : c ≡ to). fresh_at to (sym q)) s.begun);
       closed = closed_on;
     }
-
-  pub walk_done : Marked m c → Walked (Links out inn) to m₀ m
-  walk_done k = record {
-    grows = s.grows;
-    sound = s.sound;
-    begun = ⊎_elim (λ (h : Marked m to). h) (λ (q : c ≡ to). last to (sym q)) s.begun;
-    closed = λ even e f h j. ⊎_elim (λ (k : Marked m f ⊎ Marked m₀ e). k) (λ (w : (e ≡ p) × (f ≡ c)). inl (last f w.1)) (s.closed even e f h j);
-  }
-    where
-      last : (f : ℕ) → f ≡ c → Marked m f
-      last f q = subst (λ (x : ℕ). Marked m x) (sym q) k
 
 -- ---- walks from every mark
 

@@ -2,16 +2,18 @@
 
 #![tactic(auto)]
 
-ghost use Rattle.std.specs.Prelude.{◌≡◌, List, ℕ, ◌+◌, ◌-◌, ◌<◌, ◌≤◌, length, set};
+ghost use Rattle.std.specs.Prelude.{◌≡◌, List, ℕ, ◌+◌, ◌-◌, ◌<◌, ◌≤◌, length, set, IfSome, unwrap_or};
 ghost use Rattle.bits.specs.held.Bits.{marks_of};
-ghost use Rattle.words.specs.held.Words.{step_of, next_of, dir_of, node_of};
+ghost use Rattle.words.specs.held.Words.{step_of, next_of, dir_of, node_of, number_of};
 ghost use Rattle.reach.specs.held.Marking.{Marked, Flooded, Blank};
 ghost use Rattle.whole.specs.Least.{LeastBelow};
 ghost use Rattle.links.specs.held.Linking.{Joins, Pointed, Cornered, Met, Begun, Cut, Unlinks, Selves, Nodes, Links, Lone, Crossed, Onward, Walked, Traced};
 
+use words::Node;
+
 // No marks.
 fn blank() -> [u64; 16]
-    ensures { (length result ≡ 16) × Blank 1024 (marks_of result) }
+    ensures { Blank 1024 (marks_of result) }
 {
     [0u64; 16]
 }
@@ -19,8 +21,8 @@ fn blank() -> [u64; 16]
 // One end of an edge, at point v, where the edge joins corners x and y: where v is not yet seen, x is its first corner and is marked; then
 // the two are joined.
 fn meet(seen: &mut [u64; 16], marks: &mut [u64; 16], v: usize, x: usize, y: usize)
-    requires { (length seen.old ≡ 16) × (length marks.old ≡ 16) × (v < 1024) × (x < 1024) × (y < 1024) }
-    ensures { (length seen.new ≡ 16) × (length marks.new ≡ 16) × Met v x y (marks_of seen.old) (marks_of marks.old) (marks_of seen.new) (marks_of marks.new) }
+    requires { (v < 1024) × (x < 1024) × (y < 1024) }
+    ensures { Met v x y (marks_of seen.old) (marks_of marks.old) (marks_of seen.new) (marks_of marks.new) }
 {
     if !bits::is_marked(seen, v) {
         bits::mark(seen, v);
@@ -32,14 +34,13 @@ fn meet(seen: &mut [u64; 16], marks: &mut [u64; 16], v: usize, x: usize, y: usiz
 // One pass over the pairs of words: marks the first corner that is met at each point, and the corners that the pass finds linked to it.
 // The points are taken from the edge, below 1,024 so that each has its mark whatever the words are: of loaded rings all are below 512.
 fn pass(words: &[u64], marks: &mut [u64; 16])
-    requires { (length marks.old ≡ 16) × Blank 1024 (marks_of marks.old) }
-    ensures { (length marks.new ≡ 16) × ((es : List ℕ) → Cornered es words.now → Begun es words.now (marks_of marks.new)) }
+    requires { Blank 1024 (marks_of marks.old) }
+    ensures { (es : List ℕ) → Cornered es words.now → Begun es words.now (marks_of marks.new) }
 {
     let mut seen = blank();
-    let mut i = 0;
-    while i + 1 < words.len() {
-        let v = words[i];
-        let w = words[i + 1];
+    for i in 0..words.len() / 2 {
+        let v = words[2 * i];
+        let w = words[2 * i + 1];
         let k = words::key_of(v);
         let low = (k / 65536 % 1024) as usize;
         let high = (k % 1024) as usize;
@@ -47,40 +48,35 @@ fn pass(words: &[u64], marks: &mut [u64; 16])
             &mut seen,
             marks,
             low,
-            words::node_of(v, 1),
-            words::node_of(w, 1),
+            words::node_of(v, Node::Smaller),
+            words::node_of(w, Node::Smaller),
         );
         meet(
             &mut seen,
             marks,
             high,
-            words::node_of(v, 2),
-            words::node_of(w, 2),
+            words::node_of(v, Node::Larger),
+            words::node_of(w, Node::Larger),
         );
-        i += 2;
     }
 }
 
 // Each corner across from itself.
 fn selves(t: &mut [u16; 1024])
-    requires { length t.old ≡ 1024 }
     ensures { Selves t.new }
 {
-    let mut i = 0;
-    while i < 1024 {
-        t[i] = i as u16;
-        i += 1;
+    for (i, e) in t.iter_mut().enumerate() {
+        *e = i as u16;
     }
 }
 
 // Writes down, for the corner where a word's step starts and for the one where it ends, the corner across its pair, of word w.
 fn across(v: u64, w: u64, out: &mut [u16; 1024], inn: &mut [u16; 1024])
-    requires { (length out.old ≡ 1024) × (length inn.old ≡ 1024) }
     ensures { (out.new ≡ set out.old (step_of v) (node_of (1 + dir_of v) w)) × (inn.new ≡ set inn.old (next_of v) (node_of (3 - (1 + dir_of v)) w)) }
 {
-    let side = side_of(v);
-    out[step_of(v)] = words::node_of(w, side) as u16;
-    inn[next_of(v)] = words::node_of(w, 3 - side) as u16;
+    let (start, end) = ends_of(v);
+    out[step_of(v)] = words::node_of(w, start) as u16;
+    inn[next_of(v)] = words::node_of(w, end) as u16;
 }
 
 // The same for both words of each pair.
@@ -88,23 +84,33 @@ fn cross(words: &[u64], out: &mut [u16; 1024], inn: &mut [u16; 1024])
     requires { Selves out.old × Selves inn.old }
     ensures { Crossed words.now out.new inn.new }
 {
-    let mut i = 0;
-    while i + 1 < words.len() {
-        let v = words[i];
-        let w = words[i + 1];
+    for i in 0..words.len() / 2 {
+        let v = words[2 * i];
+        let w = words[2 * i + 1];
         across(v, w, out, inn);
         across(w, v, out, inn);
-        i += 2;
     }
 }
 
-// Which of its edge's ends a word's step starts at: 1 the smaller, 2 the larger.
-fn side_of(w: u64) -> u8
-    ensures { (result ≡ 1 + dir_of w) × (result ≤ 2) }
+// Which of its edge's ends a word's step starts at, and which it ends at.
+fn ends_of(w: u64) -> (Node, Node)
+    ensures { (number_of result.0 ≡ 1 + dir_of w) × (number_of result.1 ≡ 3 - (1 + dir_of w)) }
 {
-    if w % 2 == 0 { 1 } else { 2 }
+    if w % 2 == 0 {
+        (Node::Smaller, Node::Larger)
+    } else {
+        (Node::Larger, Node::Smaller)
+    }
 }
 
+// The corner where a word's step starts.
+fn step_of(w: u64) -> usize
+    ensures { (result ≡ step_of w) × (result < 1024) }
+{
+    (w / 2048 % 1024) as usize
+}
+
+// The corner where it ends.
 fn next_of(w: u64) -> usize
     ensures { (result ≡ next_of w) × (result < 1024) }
 {
@@ -114,14 +120,14 @@ fn next_of(w: u64) -> usize
 // Marks corner after corner, from each to the one that it was not come from, up to one that has a mark. Each turn takes a corner that had
 // none.
 fn walk(out: &[u16; 1024], inn: &[u16; 1024], marks: &mut [u64; 16], from: usize, to: usize)
-    requires { Nodes out.now × Nodes inn.now × (length marks.old ≡ 16) × Marked (marks_of marks.old) from × Links out.now inn.now from to × (to < 1024) }
-    ensures { (length marks.new ≡ 16) × Walked (Links out.now inn.now) to (marks_of marks.old) (marks_of marks.new) }
+    requires { Nodes out.now × Nodes inn.now × Marked (marks_of marks.old) from × Links out.now inn.now from to × (to < 1024) }
+    ensures { Walked (Links out.now inn.now) to (marks_of marks.old) (marks_of marks.new) }
 {
     let mut p = from;
     let mut c = to;
     while !bits::is_marked(marks, c) {
         bits::mark(marks, c);
-        let n = onward(wide(out[c]), wide(inn[c]), p);
+        let n = onward(usize::from(out[c]), usize::from(inn[c]), p);
         p = c;
         c = n;
     }
@@ -136,24 +142,21 @@ fn onward(x: usize, y: usize, p: usize) -> usize
 
 // Walks both ways from each marked corner.
 fn walks(out: &[u16; 1024], inn: &[u16; 1024], marks: &mut [u64; 16])
-    requires { Nodes out.now × Nodes inn.now × (length marks.old ≡ 16) }
-    ensures { (length marks.new ≡ 16) × Traced (Links out.now inn.now) (marks_of marks.old) (marks_of marks.new) }
+    requires { Nodes out.now × Nodes inn.now }
+    ensures { Traced (Links out.now inn.now) (marks_of marks.old) (marks_of marks.new) }
 {
-    let mut e = 0;
-    while e < 1024 {
+    for e in 0..1024 {
         if bits::is_marked(marks, e) {
-            walk(out, inn, marks, e, wide(out[e]));
-            walk(out, inn, marks, e, wide(inn[e]));
+            walk(out, inn, marks, e, usize::from(out[e]));
+            walk(out, inn, marks, e, usize::from(inn[e]));
         }
-        e += 1;
     }
 }
 
 // Marks whatever corner the marks reach across the pairs, where each corner has one pair of its own step and one of the step before.
 // Whatever the numbering, the tables take one turn an entry and one a word, and no corner begins more than two walks or is taken twice.
 fn trace(words: &[u64], marks: &mut [u64; 16])
-    requires { length marks.old ≡ 16 }
-    ensures { (length marks.new ≡ 16) × (Lone step_of words.now → Lone next_of words.now → Flooded (Joins 1 2 words.now) (marks_of marks.old) (marks_of marks.new)) }
+    ensures { Lone step_of words.now → Lone next_of words.now → Flooded (Joins 1 2 words.now) (marks_of marks.old) (marks_of marks.new) }
 {
     let mut out = [0u16; 1024];
     let mut inn = [0u16; 1024];
@@ -163,52 +166,37 @@ fn trace(words: &[u64], marks: &mut [u64; 16])
     walks(&out, &inn, marks);
 }
 
-// The lowest point with a corner that has no mark, or 65536.
-fn lowest_cut(words: &[u64], entries: &[u16; 1024], marks: &[u64; 16]) -> usize
-    requires { Pointed entries.now words.now × (length marks.now ≡ 16) }
-    ensures { LeastBelow (Cut entries.now words.now (marks_of marks.now)) 65536 result }
+// The lowest point with a corner that has no mark.
+fn lowest_cut(words: &[u64], entries: &[u16; 1024], marks: &[u64; 16]) -> Option<usize>
+    requires { Pointed entries.now words.now }
+    ensures { IfSome result (λ v. v < 65536) × LeastBelow (Cut entries.now words.now (marks_of marks.now)) 65536 (unwrap_or result 65536) }
 {
-    let mut best: usize = 65536;
-    let mut i = 0;
-    while i < words.len() {
-        let s = step_of(words[i]);
-        let v = wide(entries[s]);
+    let mut best: Option<usize> = None;
+    for w in words {
+        let s = step_of(*w);
         if !bits::is_marked(marks, s) {
-            if v < best {
-                best = v;
-            }
+            let v = usize::from(entries[s]);
+            best = Some(best.map_or(v, |b| b.min(v)));
         }
-        i += 1;
     }
     best
 }
 
-// Check 0C: the lowest point with a corner that its first corner does not reach across pairs that end at it, or 65536. There are as many
-// corners as words, so that counting the marks tells whether each has one: mostly after the pass already, else after the walks.
-pub fn unlinked(words: &[u64], entries: &[u16; 1024]) -> usize
+// Check 0C: the lowest point with a corner that its first corner does not reach across pairs that end at it; none where each reaches all.
+// There are as many corners as words, so that counting the marks tells whether each has one: mostly after the pass already, else after
+// the walks.
+pub fn unlinked(words: &[u64], entries: &[u16; 1024]) -> Option<usize>
     requires { Pointed entries.now words.now }
-    ensures { Cornered entries.now words.now → Unlinks entries.now words.now result }
+    ensures { IfSome result (λ v. v < 65536) × (Cornered entries.now words.now → Unlinks entries.now words.now (unwrap_or result 65536)) }
 {
     let mut marks = blank();
     pass(words, &mut marks);
     if bits::count(&marks) == words.len() {
-        return 65536;
+        return None;
     }
     trace(words, &mut marks);
     if bits::count(&marks) == words.len() {
-        return 65536;
+        return None;
     }
     lowest_cut(words, entries, &marks)
-}
-
-fn step_of(w: u64) -> usize
-    ensures { (result ≡ step_of w) × (result < 1024) }
-{
-    (w / 2048 % 1024) as usize
-}
-
-fn wide(x: u16) -> usize
-    ensures { result ≡ x }
-{
-    x as usize
 }

@@ -12,7 +12,7 @@ mod points;
 
 ghost use Rattle.std.specs.Prelude.{◌≡◌, ◌+◌, ◌≤◌, length};
 ghost use Rattle.frame.specs.Frame as F;
-ghost use Rattle.building.specs.held.Holds.{Arrays};
+ghost use Rattle.building.specs.declared.Arrays.{Arrays};
 ghost use Rattle.desk.specs.held.Holds.{service, Valid, Did, does};
 ghost use Rattle.load.specs.held.Load.{unchained, with_points};
 
@@ -20,28 +20,24 @@ pub use points::add_point;
 
 // No point is linked. Before the first load of a call none has been, so that there is nothing to clear.
 fn clear_chains(table: &mut [u64; 1024], mode: Mode)
-    requires { length table.old ≡ 1024 }
     ensures { table.new ≡ unchained mode table.old }
 {
     match mode {
         Mode::Nothing => {}
-        Mode::Loading => taken::clear(table),
-        Mode::Holding => taken::clear(table),
+        Mode::Loading | Mode::Holding => taken::clear(table),
     }
 }
 
 // Accepted begin drops all that was held and starts a load.
 pub fn begin(table: &mut [u64; 1024], room: &mut [u8], d: Desk, tolerance: u16) -> Desk
-    requires { (d.at + 33 ≤ length room.old) × (length table.old ≡ 1024) }
+    requires { d.at + 33 ≤ length room.old }
     ensures { (a : Arrays) → a.table ≡ table.old → Valid a d → Did (does (service a d) (F.begin tolerance)) room.old d.at (with_points a.points table.new a) room.new result }
 {
     if 1000 < tolerance {
         return desk::refuse(room, d, Refusal::Beyond);
     }
-    let mode = d.mode;
-    clear_chains(table, mode);
-    let from = d.at;
-    let at = answer::put_plain(room, from, 0);
+    clear_chains(table, d.mode);
+    let at = answer::put_plain(room, d.at, 0);
     let held = Scalars {
         tolerance,
         points: 0,

@@ -6,23 +6,16 @@ ghost use Rattle.std.specs.Prelude.{◌≡◌};
 ghost use Rattle.space.specs.held.Points.{Known};
 ghost use Rattle.ring.specs.Entries.{repeated_at};
 
-fn wide(x: u16) -> usize
-    ensures { result ≡ x }
-{
-    x as usize
-}
-
 // "the least entry index whose number stood earlier, the closing entry aside": the first entry whose mark stands, or the closing
 // entry's index. Point x is bit x % 64 of word x / 64. Each entry is read once, so a ring of n entries is read n - 1 times at most.
 pub fn first_repeated(ring: &[u16]) -> usize
     requires { Known ring.now }
     ensures { result ≡ repeated_at ring.now }
 {
-    let n = ring.len();
+    let last = ring.len().saturating_sub(1);
     let mut marks: [u64; 8] = [0; 8];
-    let mut i: usize = 0;
-    while i + 1 < n {
-        let x = wide(ring[i]);
+    for (i, x) in ring[..last].iter().enumerate() {
+        let x = usize::from(*x);
         let w = x / 64;
         let k = (x % 64) as u64;
         let word = marks[w];
@@ -31,7 +24,6 @@ pub fn first_repeated(ring: &[u16]) -> usize
             return i;
         }
         marks[w] = marked;
-        i += 1;
     }
-    i
+    last
 }

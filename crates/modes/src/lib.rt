@@ -6,7 +6,7 @@ ghost use Rattle.std.specs.Prelude.{◌≡◌};
 ghost use Rattle.modes.specs.held.Mode.{loads, holds};
 
 // What is held: nothing, a load that runs, or a building.
-#[derive(Clone, Copy)]
+#[derive(Clone, Copy, PartialEq, Eq)]
 pub enum Mode {
     Nothing,
     Loading,
@@ -17,20 +17,12 @@ pub enum Mode {
 pub fn is_loading(mode: Mode) -> bool
     ensures { result ≡ loads mode }
 {
-    match mode {
-        Mode::Nothing => false,
-        Mode::Loading => true,
-        Mode::Holding => false,
-    }
+    mode == Mode::Loading
 }
 
 // Whether a building is held.
 pub fn is_holding(mode: Mode) -> bool
     ensures { result ≡ holds mode }
 {
-    match mode {
-        Mode::Nothing => false,
-        Mode::Loading => false,
-        Mode::Holding => true,
-    }
+    mode == Mode::Holding
 }

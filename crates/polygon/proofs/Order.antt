@@ -1,5 +1,5 @@
--- The checks in order: what is kept where the first n have passed and the next fails, 03, 05 and 06 by where they are met.
-use Prim.Native.Nat.{ℕ, ◌+◌, ◌*◌, ◌-◌, ◌≤◌, ◌<◌}
+-- The checks in order: what is told where the first n have passed and the next fails, 03, 05 and 06 by where they are met.
+use Prim.Native.Nat.{ℕ, ◌+◌, ◌-◌, ◌≤◌, ◌<◌}
 use native.Mathlib.Omega.{arith}
 use mathlib.Core.Path.{◌≡◌, sym, ap, ◌∙◌, subst}
 use mathlib.Core.Bool.{Bool, true, false}
@@ -14,8 +14,7 @@ use Rattle.polygon.specs.declared.Finding.{Finding}
 use Rattle.polygon.specs.declared.Finding.TheVariants.{Sound, Short, Unclosed, Repeated, NoNormal, Crossed, Uneven}
 use Rattle.space.specs.Space.{Point, places}
 use Rattle.plane.specs.Plane.{largest_axis_of, Segment}
-use Rattle.polygon.specs.Ring.{ring_finding, finding, finding_number_of, finding_position_of, is_short, edges_in}
-use Rattle.polygon.specs.held.Findings.{kept_finding}
+use Rattle.polygon.specs.Ring.{ring_finding, finding, is_short, edges_in}
 use Rattle.ring.specs.Entries.{is_unclosed, is_repeated, repeated_at}
 use Rattle.ring.specs.laws.Repeated.{repeated_is}
 use Rattle.normal.specs.Normal.{normal, is_zero_of}
@@ -24,7 +23,7 @@ use Rattle.crossing.proofs.laws.Least.{crossed_is}
 use Rattle.even.specs.Even.{is_uneven, uneven_at}
 use Rattle.even.proofs.laws.Least.{uneven_is}
 use Rattle.polygon.specs.laws.Checks.{ring_checks, ring_rows_lem}
-use Rattle.polygon.specs.laws.Rows.{finding_taken, finding-left, kept_sound, kept_fault}
+use Rattle.polygon.specs.laws.Rows.{finding_taken, finding-left}
 use Rattle.polygon.specs.laws.Position.{places-length, edges-length}
 use Rattle.polygon.specs.laws.Triangle.{triangle_single, triangle_uncrossed}
 
@@ -49,67 +48,66 @@ module _ (points : List Point) (ring : List ℕ) where
   unfolding ring_finding
   by_rows = ap (first Sound) (ring_rows_lem points ring)
 
-  pub found_short : length ring < 4 → 1 ≡ kept_finding (ring_finding points ring)
-  unfolding ring_checks is_short kept_finding finding_number_of finding_position_of
-  found_short h = ap kept_finding (sym (by_rows ∙ first_is Sound [] (is_short ring) Short _ none (lt-ltb (length ring) 4 h)))
+  pub found_short : length ring < 4 → Short ≡ ring_finding points ring
+  unfolding ring_checks is_short
+  found_short h = sym (by_rows ∙ first_is Sound [] (is_short ring) Short _ none (lt-ltb (length ring) 4 h))
 
   module _ (long : 4 ≤ length ring) where
     one : is_short ring ≡ false
     unfolding is_short
     one = le-ltb (length ring) 4 long
 
-    pub found-unclosed : is_unclosed ring ≡ true → 2 ≡ kept_finding (ring_finding points ring)
-    unfolding ring_checks kept_finding finding_number_of finding_position_of
-    found-unclosed h = ap kept_finding (sym (by_rows ∙ first_is Sound (short ∷ []) (is_unclosed ring) Unclosed _ (more one none) h))
+    pub found-unclosed : is_unclosed ring ≡ true → Unclosed ≡ ring_finding points ring
+    unfolding ring_checks
+    found-unclosed h = sym (by_rows ∙ first_is Sound (short ∷ []) (is_unclosed ring) Unclosed _ (more one none) h)
 
     module _ (two : is_unclosed ring ≡ false) where
       -- 03, by where it is met
-      pub found-repeated : {i : ℕ} → i ≡ repeated_at ring → i < length ring - 1 → 16 * i + 3 ≡ kept_finding (ring_finding points ring)
-      unfolding ring_checks kept_finding finding_number_of finding_position_of
+      pub found-repeated : {i : ℕ} → i ≡ repeated_at ring → i < length ring - 1 → Repeated i ≡ ring_finding points ring
+      unfolding ring_checks
       found-repeated {i} e h =
-          ap (λ (i : ℕ). kept_finding (Repeated i)) e
-          ∙ ap kept_finding (sym (by_rows ∙ first_is Sound (short ∷ unclosed ∷ []) (is_repeated ring) (Repeated (repeated_at ring)) _ (more one (more two none)) (repeated_is ring ∙ lt-ltb (repeated_at ring + 1) (length ring) (subst (λ (n : ℕ). n + 1 < length ring) e (omega arith)))))
+          ap Repeated e
+          ∙ sym (by_rows ∙ first_is Sound (short ∷ unclosed ∷ []) (is_repeated ring) (Repeated (repeated_at ring)) _ (more one (more two none)) (repeated_is ring ∙ lt-ltb (repeated_at ring + 1) (length ring) (subst (λ (n : ℕ). n + 1 < length ring) e (omega arith))))
 
       module _ (three : is_repeated ring ≡ false) where
-        pub found-no-normal : is_zero_of n ≡ true → 4 ≡ kept_finding (ring_finding points ring)
-        unfolding ring_checks kept_finding finding_number_of finding_position_of
-        found-no-normal h = ap kept_finding (sym (by_rows ∙ first_is Sound (short ∷ unclosed ∷ repeated ∷ []) (is_zero_of n) NoNormal _ (more one (more two (more three none))) h))
+        pub found-no-normal : is_zero_of n ≡ true → NoNormal ≡ ring_finding points ring
+        unfolding ring_checks
+        found-no-normal h = sym (by_rows ∙ first_is Sound (short ∷ unclosed ∷ repeated ∷ []) (is_zero_of n) NoNormal _ (more one (more two (more three none))) h)
 
         module _ (four : is_zero_of n ≡ false) where
-          pub found-crossed : {i : ℕ} → i ≡ crossed_at es → i < length ring - 1 → 16 * i + 5 ≡ kept_finding (ring_finding points ring)
-          unfolding ring_checks kept_finding finding_number_of finding_position_of
+          pub found-crossed : {i : ℕ} → i ≡ crossed_at es → i < length ring - 1 → Crossed i ≡ ring_finding points ring
+          unfolding ring_checks
           found-crossed {i} e h =
-              ap (λ (i : ℕ). kept_finding (Crossed i)) e
-              ∙ ap kept_finding (sym (by_rows ∙ first_is Sound (short ∷ unclosed ∷ repeated ∷ (is_zero_of n, NoNormal) ∷ []) (is_crossed es) (Crossed (crossed_at es)) [] (more one (more two (more three (more four none)))) (crossed_is es ∙ lt-ltb (crossed_at es) (length es) (subst (λ (j : ℕ). j < length es) e (omega (arith, edges-length points ring))))))
+              ap Crossed e
+              ∙ sym (by_rows ∙ first_is Sound (short ∷ unclosed ∷ repeated ∷ (is_zero_of n, NoNormal) ∷ []) (is_crossed es) (Crossed (crossed_at es)) [] (more one (more two (more three (more four none)))) (crossed_is es ∙ lt-ltb (crossed_at es) (length es) (subst (λ (j : ℕ). j < length es) e (omega (arith, edges-length points ring)))))
 
-          pub found_none : is_crossed es ≡ false → 0 ≡ kept_finding (ring_finding points ring)
-          unfolding ring_checks kept_finding finding_number_of finding_position_of
-          found_none five = ap kept_finding (sym (by_rows ∙ first-none Sound (ring_checks points ring) (more one (more two (more three (more four (more five none)))))))
+          pub found_none : is_crossed es ≡ false → Sound ≡ ring_finding points ring
+          unfolding ring_checks
+          found_none five = sym (by_rows ∙ first-none Sound (ring_checks points ring) (more one (more two (more three (more four (more five none))))))
 
       -- three corners whose normal is not 0
-      pub found-triangle : length ring ≡ 4 → is_zero_of n ≡ false → 0 ≡ kept_finding (ring_finding points ring)
+      pub found-triangle : length ring ≡ 4 → is_zero_of n ≡ false → Sound ≡ ring_finding points ring
       found-triangle h e = found_none (triangle_single points ring h two e) e (triangle_uncrossed points ring h two e)
 
   -- ---- then 06
   module _ (tolerance : ℕ) where
     -- what is told by 01 to 05 is the finding
-    pub found_early : {k : ℕ} → k ≡ kept_finding (ring_finding points ring) → (k ≡ 0 → ⊥) → k ≡ kept_finding (finding tolerance points ring)
-    found_early e h = e ∙ ap kept_finding (sym (finding_taken tolerance points ring (kept_fault _ (λ z. h (e ∙ z)))))
+    pub found_early : {f : Finding} → f ≡ ring_finding points ring → (f ≡ Sound → ⊥) → f ≡ finding tolerance points ring
+    found_early e h = e ∙ sym (finding_taken tolerance points ring (λ z. h (e ∙ z)))
 
-    module _ {k : ℕ} (e : k ≡ kept_finding (ring_finding points ring)) (h : k ≡ 0) where
+    module _ (e : Sound ≡ ring_finding points ring) where
       passed : finding tolerance points ring ≡ first Sound (given (is_uneven tolerance n (places points ring)) (Uneven (uneven_at tolerance n (places points ring))) ∷ [])
-      passed = finding-left tolerance points ring (kept_sound (ring_finding points ring) (sym e ∙ h))
+      passed = finding-left tolerance points ring (sym e)
 
-      pub found_uneven : {i : ℕ} → i ≡ uneven_at tolerance n (places points ring) → i < length ring → 16 * i + 6 ≡ kept_finding (finding tolerance points ring)
-      unfolding kept_finding finding_number_of finding_position_of
+      pub found_uneven : {i : ℕ} → i ≡ uneven_at tolerance n (places points ring) → i < length ring → Uneven i ≡ finding tolerance points ring
       found_uneven {i} f l =
           let k = uneven_at tolerance n (places points ring) in
-          ap (λ (i : ℕ). kept_finding (Uneven i)) f
-          ∙ ap kept_finding (sym (passed ∙ first_given Sound (is_uneven tolerance n (places points ring)) (Uneven k) [] (uneven_is tolerance n (places points ring) ∙ lt-ltb k (length (places points ring)) (subst (λ (j : ℕ). j < length (places points ring)) f (omega (arith, places-length points ring))))))
+          ap Uneven f
+          ∙ sym (passed ∙ first_given Sound (is_uneven tolerance n (places points ring)) (Uneven k) [] (uneven_is tolerance n (places points ring) ∙ lt-ltb k (length (places points ring)) (subst (λ (j : ℕ). j < length (places points ring)) f (omega (arith, places-length points ring)))))
 
-      pub found-sound : is_uneven tolerance n (places points ring) ≡ false → 0 ≡ kept_finding (finding tolerance points ring)
-      unfolding first kept_finding finding_number_of finding_position_of
-      found-sound f = ap kept_finding (sym (passed ∙ first_past Sound _ _ [] f))
+      pub found-sound : is_uneven tolerance n (places points ring) ≡ false → Sound ≡ finding tolerance points ring
+      unfolding first
+      found-sound f = sym (passed ∙ first_past Sound _ _ [] f)
 
   -- ---- a check that is met nowhere passes
   pub single_is : {i : ℕ} → i ≡ repeated_at ring → length ring - 1 ≤ i → is_repeated ring ≡ false

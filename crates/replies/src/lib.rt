@@ -2,122 +2,75 @@
 
 #![tactic(auto)]
 
-ghost use Rattle.std.specs.Prelude.{◌≡◌, ℕ, ◌+◌, ◌*◌, ◌≤◌, length, get_or};
+ghost use Rattle.std.specs.Prelude.{◌≡◌, ◌+◌, ◌*◌, ◌≤◌, length};
 ghost use Rattle.lines.specs.Lines.{lines};
-ghost use Rattle.building.specs.held.Holds.{arrays};
 ghost use Rattle.service.specs.Service.{step};
 ghost use Rattle.desk.specs.held.Holds.{service, Valid, Did};
 ghost use Rattle.replies.specs.held.Answered.{idle_desk, Answered};
-ghost use Rattle.space.specs.held.Points.{Coords};
 
-use building::Scalars;
+use building::{Arrays, Scalars};
 use desk::Desk;
 use frame::Fields;
 use modes::Mode;
+use ring::Rings;
 use service::Refusal;
 use shell::Shape;
+use space::Points;
 
 // One line: its frame is refused or taken, and answered.
-fn one(
-    line: &[u8],
-    points: &mut [i32; 1536],
-    entries: &mut [u16; 1024],
-    starts: &mut [u16; 1025],
-    firsts: &mut [u16; 257],
-    stamps: &mut [u32; 256],
-    findings: &mut [u16; 256],
-    parts: &mut [i64; 256],
-    table: &mut [u64; 1024],
-    turned: &mut [u8; 256],
-    room: &mut [u8],
-    d: Desk,
-) -> Desk
-    requires { (d.at + 33 ≤ length room.old) × (Valid (arrays points.old entries.old starts.old firsts.old stamps.old findings.old parts.old table.old turned.old) d) }
-    ensures { Did (step (service (arrays points.old entries.old starts.old firsts.old stamps.old findings.old parts.old table.old turned.old) d) line.now) room.old d.at (arrays points.new entries.new starts.new firsts.new stamps.new findings.new parts.new table.new turned.new) room.new result }
+fn one(line: &[u8], arrays: &mut Arrays, room: &mut [u8], d: Desk) -> Desk
+    requires { (d.at + 33 ≤ length room.old) × Valid arrays.old d }
+    ensures { Did (step (service arrays.old d) line.now) room.old d.at arrays.new room.new result }
 {
-    let f = frame::decode(line);
-    match f {
-        Fields::Begin(tolerance) => load::begin(table, room, d, tolerance),
-        Fields::Point(x, y, z) => load::add_point(points, table, room, d, x, y, z),
-        Fields::Polygon(n) => rings::add_polygon(line, n, entries, starts, firsts, room, d),
-        Fields::EndOfLoad => ended::end_load(
-            points, entries, starts, firsts, stamps, findings, parts, table, turned, room, d,
+    let Some(fields) = frame::decode(line) else {
+        return desk::refuse(room, d, Refusal::Malformed);
+    };
+    match fields {
+        Fields::Begin(tolerance) => load::begin(&mut arrays.table, room, d, tolerance),
+        Fields::Point { x, y, z } => {
+            load::add_point(&mut arrays.points, &mut arrays.table, room, d, x, y, z)
+        }
+        Fields::Polygon(n) => rings::add_polygon(line, n, &mut arrays.rings, room, d),
+        Fields::EndOfLoad => ended::end_load(arrays, room, d),
+        Fields::Move {
+            number,
+            point,
+            x,
+            y,
+            z,
+        } => { amend::move_point(arrays, room, d, number, usize::from(point), x, y, z) }
+        Fields::Turn { number, polygon } => {
+            turning::turn_polygon(arrays, room, d, number, usize::from(polygon))
+        }
+        Fields::Question(p) => asking::ask(
+            &arrays.stamps,
+            &arrays.findings,
+            &arrays.parts,
+            room,
+            d,
+            usize::from(p),
         ),
-        Fields::Move(number, p, x, y, z) => {
-            let n = p as usize;
-            amend::move_point(
-                points, entries, starts, firsts, stamps, findings, parts, table, turned, room, d,
-                number, n, x, y, z,
-            )
-        }
-        Fields::Turn(number, p) => {
-            let n = p as usize;
-            turning::turn_polygon(
-                points, entries, starts, firsts, stamps, findings, parts, table, turned, room, d,
-                number, n,
-            )
-        }
-        Fields::Question(p) => {
-            let n = p as usize;
-            asking::ask(stamps, findings, parts, room, d, n)
-        }
-        Fields::Across(m, n) => across::ask(table, room, d, m, n),
-        Fields::Broken => desk::refuse(room, d, Refusal::Malformed),
+        Fields::Across { first, second } => across::ask(&arrays.table, room, d, first, second),
     }
 }
 
-fn fresh_points() -> [i32; 1536]
-    ensures { Coords result }
+// The arrays before the first line: nothing but zeros.
+fn fresh() -> Arrays
+    ensures { Valid result idle_desk }
 {
-    [0; 1536]
-}
-
-fn fresh_entries() -> [u16; 1024]
-    ensures { length result ≡ 1024 }
-{
-    [0; 1024]
-}
-
-fn fresh_starts() -> [u16; 1025]
-    ensures { (length result ≡ 1025) × (get_or result 0 0 ≡ 0) }
-{
-    [0; 1025]
-}
-
-fn fresh_firsts() -> [u16; 257]
-    ensures { (length result ≡ 257) × (get_or result 0 0 ≡ 0) }
-{
-    [0; 257]
-}
-
-fn fresh_stamps() -> [u32; 256]
-    ensures { length result ≡ 256 }
-{
-    [0; 256]
-}
-
-fn fresh_findings() -> [u16; 256]
-    ensures { length result ≡ 256 }
-{
-    [0; 256]
-}
-
-fn fresh_turned() -> [u8; 256]
-    ensures { length result ≡ 256 }
-{
-    [0; 256]
-}
-
-fn fresh_parts() -> [i64; 256]
-    ensures { length result ≡ 256 }
-{
-    [0; 256]
-}
-
-fn fresh_table() -> [u64; 1024]
-    ensures { (length result ≡ 1024) × ((b : ℕ) → get_or result b 0 ≡ 0) }
-{
-    [0; 1024]
+    Arrays {
+        points: Points { flat: [0; 1536] },
+        rings: Rings {
+            entries: [0; 1024],
+            starts: [0; 1025],
+            firsts: [0; 257],
+        },
+        stamps: [0; 256],
+        findings: [0; 256],
+        parts: [0; 256],
+        table: [0; 1024],
+        turned: [0; 256],
+    }
 }
 
 // No load running, no building held.
@@ -145,33 +98,12 @@ pub fn all(stream: &[u8], room: &mut [u8]) -> usize
     requires { (length stream.now ≤ 65535) × (33 * length (lines stream.now) ≤ length room.old) }
     ensures { Answered stream.now room.old room.new result }
 {
-    let mut points = fresh_points();
-    let mut entries = fresh_entries();
-    let mut starts = fresh_starts();
-    let mut firsts = fresh_firsts();
-    let mut stamps = fresh_stamps();
-    let mut findings = fresh_findings();
-    let mut parts = fresh_parts();
-    let mut table = fresh_table();
-    let mut turned = fresh_turned();
+    let mut arrays = fresh();
     let mut d = idle();
     let mut from = 0;
     while from < stream.len() {
         let end = lines::line_end(stream, from);
-        d = one(
-            &stream[from..end],
-            &mut points,
-            &mut entries,
-            &mut starts,
-            &mut firsts,
-            &mut stamps,
-            &mut findings,
-            &mut parts,
-            &mut table,
-            &mut turned,
-            room,
-            d,
-        );
+        d = one(&stream[from..end], &mut arrays, room, d);
         from = end + 1;
     }
     d.at

@@ -1,1 +1,2 @@
+pub mod held
 pub mod laws

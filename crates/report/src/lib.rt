@@ -2,17 +2,18 @@
 
 #![tactic(auto)]
 
-ghost use Rattle.std.specs.Prelude.{◌≡◌, ◌/◌, ◌%◌, ◌≤◌, ltb, length, take};
+ghost use Rattle.std.specs.Prelude.{◌≡◌, ◌/◌, ◌%◌, ◌<◌, ◌≤◌, ◌≢◌, ltb, take, slice_index, MatchOption};
 ghost use Rattle.whole.specs.Lists.{tally, sum_of};
 ghost use Rattle.polygon.specs.held.Findings.{finding_of};
 ghost use Rattle.building.specs.Report.{verdict};
-ghost use Rattle.building.specs.held.Holds.{held_tables, Loaded, Kept};
-ghost use Rattle.totals.specs.held.Scans.{lowest};
+ghost use Rattle.building.specs.held.Holds.{tables_in, LoadedIn, KeptIn};
+ghost use Rattle.report.specs.held.Lowest.{NoneFound};
 
-use building::{Scalars, Verdict};
+use building::{Arrays, Scalars, Verdict};
 use polygon::Finding;
 
 // The finding that is kept so.
+#[tactic(auto, unfolding(polygon::specs::held::Findings::finding_of))]
 fn finding_from(kept: u16) -> Finding
     ensures { result ≡ finding_of (kept % 16) (kept / 16) }
 {
@@ -30,46 +31,26 @@ fn finding_from(kept: u16) -> Finding
     }
 }
 
-// The lowest of the first n polygons that has a finding; n if there is none.
-fn lowest_of(findings: &[u16; 256], n: usize) -> usize
-    requires { (n ≤ 256) × (length findings.now ≡ 256) }
-    ensures { result ≡ lowest (take n findings.now) }
+// The lowest of the first n polygons that has a finding.
+fn lowest_of(findings: &[u16; 256], n: usize) -> Option<usize>
+    requires { n ≤ 256 }
+    ensures { MatchOption result (NoneFound findings.now n) (λ i. (i < n) × (NoneFound findings.now i × (slice_index findings.now i ≢ 0))) }
 {
-    let mut i = 0;
-    while i < n {
-        if findings[i] != 0 {
-            return i;
-        }
-        i += 1;
-    }
-    i
+    findings[..n].iter().position(|kept| *kept != 0)
 }
 
 // The first check that fails, from what is kept: the lowest finding, else the check of the whole, else the six-volume's sign. The lowest
 // is looked for only where there is one.
-pub fn verdict_of(
-    points: &[i32; 1536],
-    entries: &[u16; 1024],
-    starts: &[u16; 1025],
-    firsts: &[u16; 257],
-    findings: &[u16; 256],
-    parts: &[i64; 256],
-    table: &[u64; 1024],
-    turned: &[u8; 256],
-    s: Scalars,
-    faults: usize,
-    volume: i64,
-) -> Verdict
-    requires loaded { Loaded points.now entries.now starts.now firsts.now s }
-    requires kept { Kept points.now entries.now starts.now firsts.now findings.now parts.now table.now turned.now s }
-    requires faults_value { (faults ≡ tally (ltb 0) (take s.polygons findings.now)) × (volume ≡ sum_of (λ z. z) (take s.polygons parts.now)) }
-    ensures { result ≡ verdict (held_tables points.now entries.now starts.now firsts.now s) }
+pub fn verdict_of(arrays: &Arrays, s: Scalars, faults: usize, volume: i64) -> Verdict
+    requires loaded { LoadedIn arrays.now s }
+    requires kept { KeptIn arrays.now s }
+    requires faults_value { (faults ≡ tally (ltb 0) (take s.polygons arrays.now.findings)) × (volume ≡ sum_of (λ z. z) (take s.polygons arrays.now.parts)) }
+    ensures { result ≡ verdict (tables_in arrays.now s) }
 {
     if faults != 0 {
-        let n = s.polygons;
-        let low = lowest_of(findings, n);
-        let found = finding_from(findings[low]);
-        return Verdict::Faulty(low, found);
+        if let Some(low) = lowest_of(&arrays.findings, s.polygons) {
+            return Verdict::Faulty(low, finding_from(arrays.findings[low]));
+        }
     }
     let shape = s.shape;
     if verdict::shape_number(shape) != 0 {

@@ -6,7 +6,7 @@ ghost use Rattle.std.specs.Prelude.{◌≡◌, ◌+◌, ◌≤◌, length, drop,
 ghost use Rattle.std.proofs.lemmas.List.Edits.{sets};
 ghost use Rattle.frame.specs.Frame as F;
 ghost use Rattle.frame.specs.Frame.{numbers};
-ghost use Rattle.building.specs.held.Holds.{Arrays};
+ghost use Rattle.building.specs.declared.Arrays.{Arrays};
 ghost use Rattle.desk.specs.held.Holds.{service, Valid, Did, does};
 ghost use Rattle.rings.specs.held.Rings.{with_rings, Ends, PolygonLine, PolygonRow};
 ghost use Rattle.whole.specs.Lists.{any};
@@ -14,6 +14,7 @@ ghost use Rattle.whole.specs.Lists.{any};
 use building::Scalars;
 use desk::Desk;
 use modes::Mode;
+use ring::Rings;
 use service::Refusal;
 use shell::Shape;
 
@@ -22,94 +23,72 @@ fn names_absent(line: &[u8], n: usize, points: usize) -> bool
     requires { PolygonLine line.now n }
     ensures { result ≡ any (leb points) (numbers (drop 2 line.now)) }
 {
-    let mut i = 0;
-    while i < n {
-        let e = frame::entry(line, i) as usize;
+    for i in 0..n {
+        let e = usize::from(frame::entry(line, i));
         if points <= e {
             return true;
         }
-        i += 1;
     }
     false
 }
 
 // Why a polygon more is refused.
-fn of_polygon(line: &[u8], n: usize, starts: &[u16; 1025], firsts: &[u16; 257], d: Desk) -> Refusal
-    requires { (PolygonLine line.now n) × (Ends starts.now firsts.now d.held.polygons) }
-    ensures { PolygonRow starts.now firsts.now d (numbers (drop 2 line.now)) result }
+fn of_polygon(line: &[u8], n: usize, rings: &Rings, d: Desk) -> Result<(), Refusal>
+    requires { (PolygonLine line.now n) × (Ends rings.now.starts rings.now.firsts d.held.polygons) }
+    ensures { PolygonRow rings.now.starts rings.now.firsts d (numbers (drop 2 line.now)) result }
 {
-    let mode = d.mode;
-    let held = d.held;
-    let points = held.points;
-    let polygons = held.polygons;
-    if !modes::is_loading(mode) {
-        return Refusal::Misplaced;
+    let polygons = d.held.polygons;
+    if !modes::is_loading(d.mode) {
+        return Err(Refusal::Misplaced);
     }
-    if names_absent(line, n, points) {
-        return Refusal::Absent;
+    if names_absent(line, n, d.held.points) {
+        return Err(Refusal::Absent);
     }
     if 256 <= polygons {
-        return Refusal::Full;
+        return Err(Refusal::Full);
     }
-    let rings = firsts[polygons] as usize;
-    let used = starts[rings] as usize;
+    let first = usize::from(rings.firsts[polygons]);
+    let used = usize::from(rings.starts[first]);
     if 1024 < used + n {
-        return Refusal::Full;
+        return Err(Refusal::Full);
     }
-    Refusal::Accepted
+    Ok(())
 }
 
 // The numbers of a polygon's line, into the entries from a place on.
 fn copy_ring(line: &[u8], n: usize, entries: &mut [u16; 1024], from: usize)
-    requires { (PolygonLine line.now n) × ((from + n ≤ 1024) × (length entries.old ≡ 1024)) }
+    requires { (PolygonLine line.now n) × (from + n ≤ 1024) }
     ensures { entries.new ≡ sets entries.old from (numbers (drop 2 line.now)) }
 {
-    let mut i = 0;
-    while i < n {
-        let e = frame::entry(line, i);
-        entries[from + i] = e;
-        i += 1;
+    for i in 0..n {
+        entries[from + i] = frame::entry(line, i);
     }
 }
 
 // A polygon more.
-pub fn add_polygon(
-    line: &[u8],
-    n: usize,
-    entries: &mut [u16; 1024],
-    starts: &mut [u16; 1025],
-    firsts: &mut [u16; 257],
-    room: &mut [u8],
-    d: Desk,
-) -> Desk
-    requires { (d.at + 33 ≤ length room.old) × ((PolygonLine line.now n) × ((length entries.old ≡ 1024) × (Ends starts.old firsts.old d.held.polygons))) }
-    ensures { (a : Arrays) → a.entries ≡ entries.old → a.starts ≡ starts.old → a.firsts ≡ firsts.old → Valid a d → Did (does (service a d) (F.polygon (numbers (drop 2 line.now)))) room.old d.at (with_rings entries.new starts.new firsts.new a) room.new result }
+pub fn add_polygon(line: &[u8], n: usize, rings: &mut Rings, room: &mut [u8], d: Desk) -> Desk
+    requires { (d.at + 33 ≤ length room.old) × ((PolygonLine line.now n) × (Ends rings.old.starts rings.old.firsts d.held.polygons)) }
+    ensures { (a : Arrays) → a.rings ≡ rings.old → Valid a d → Did (does (service a d) (F.polygon (numbers (drop 2 line.now)))) room.old d.at (with_rings rings.new a) room.new result }
 {
-    let refusal = of_polygon(line, n, starts, firsts, d);
-    if desk::is_accepted(refusal) {
-        let s = d.held;
-        let m = s.polygons;
-        let rings = firsts[m] as usize;
-        let used = starts[rings] as usize;
-        copy_ring(line, n, entries, used);
-        building::close_ring(starts, rings, used + n);
-        building::close_polygon(firsts, m, rings + 1);
-        let from = d.at;
-        let at = answer::put_plain(room, from, 0);
-        let held = Scalars {
-            tolerance: s.tolerance,
-            points: s.points,
-            polygons: m + 1,
-            last: s.last,
-            edges: s.edges,
-            fixed: Shape::Whole,
-            shape: Shape::Whole,
-        };
-        return Desk {
-            mode: Mode::Loading,
-            held,
-            at,
-        };
+    if let Err(refusal) = of_polygon(line, n, rings, d) {
+        return desk::refuse(room, d, refusal);
     }
-    desk::refuse(room, d, refusal)
+    let m = d.held.polygons;
+    let first = usize::from(rings.firsts[m]);
+    let used = usize::from(rings.starts[first]);
+    copy_ring(line, n, &mut rings.entries, used);
+    building::close(&mut rings.starts, first, used + n);
+    building::close(&mut rings.firsts, m, first + 1);
+    let at = answer::put_plain(room, d.at, 0);
+    let held = Scalars {
+        polygons: m + 1,
+        fixed: Shape::Whole,
+        shape: Shape::Whole,
+        ..d.held
+    };
+    Desk {
+        mode: Mode::Loading,
+        held,
+        at,
+    }
 }

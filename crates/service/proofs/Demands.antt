@@ -3,7 +3,7 @@ use Rattle.std.specs.Prelude.{ℕ, ◌*◌, ◌≤◌, ◌<◌, ◌≡◌, refl,
 use Rattle.std.proofs.Common.{arith, sym, ap, ◌∙◌}
 use Rattle.std.proofs.Math.Path.{subst}
 use mathlib.Core.List.{List, [], ◌∷◌, ◌++◌}
-use Rattle.std.proofs.Math.Option.{none, some}
+use Rattle.std.proofs.Math.Option.{Option, none, some}
 use Rattle.std.specs.Int.Signed.{le_z}
 use Rattle.whole.specs.Lists.{tally}
 use Rattle.whole.specs.All.{All}
@@ -29,7 +29,7 @@ use Rattle.building.specs.laws.Thirteen.{accepted_none, none_accepted, zero-none
 use Rattle.building.specs.Corrections.{stamp_of, last_number}
 use Rattle.service.specs.declared.Refusal.{Refusal}
 use Rattle.service.specs.declared.Refusal.TheVariants.{Late}
-use Rattle.service.specs.Service.{State, nothing, tables_of, building_of, refusal, refusal_number_of, report_of, told_of, across_of, answer_to, Outcome, outcome, step, accepts}
+use Rattle.service.specs.Service.{State, nothing, tables_of, building_of, refusal, row_number_of, refusal_number_of, report_of, told_of, across_of, answer_to, Outcome, outcome, step, accepts}
 use Rattle.service.specs.Stream.{Served, served, answers, after, run, Answers, Stands}
 use Rattle.service.proofs.laws.Refusals.{refused-line, struck_stream}
 use Rattle.service.specs.Strike.{struck, accepted_answers, Left}
@@ -207,7 +207,7 @@ module _ (before : List (List ℕ)) (end : List ℕ) (since : List (List ℕ)) (
   stamp = stamp_is before end since s
 
   -- "In that span a correction numbered no higher than the last one accepted in it is refused"
-  pub late_refused : (l : List ℕ) (number : ℕ) → Numbered (decode l) number → number ≤ last_number (corrections_of before since) → refusal (held before end since) (decode l) ≡ Late
+  pub late_refused : (l : List ℕ) (number : ℕ) → Numbered (decode l) number → number ≤ last_number (corrections_of before since) → refusal (held before end since) (decode l) ≡ some Late
   late_refused = late_correction before end since s
 
 -- "and striking out all refused frames changes no other answer." There always is such a stream, within the bounds that the stream keeps.
@@ -274,8 +274,8 @@ module _ (stream room : List ℕ) (code : ℤ) (room' : List ℕ) (returned : An
 
       -- a correction numbered no higher than the last accepted one with 07, and nothing else.
       pub code-late : (number : ℕ) → Numbered (decode l) number → number ≤ last_number (corrections_of before since) → Stands (before ++ end ∷ since) (plain 7) room'
-      unfolding step outcome refusal_number_of
-      code-late number k h = subst (λ (q : List ℕ). Stands (before ++ end ∷ since) q room') (ap (λ (r : Refusal). (outcome r (held before end since) (decode l)).answer) (late_refused before end since s l number k h)) here
+      unfolding step outcome row_number_of
+      code-late number k h = subst (λ (q : List ℕ). Stands (before ++ end ∷ since) q room') (ap (λ (r : Option Refusal). (outcome r (held before end since) (decode l)).answer) (late_refused before end since s l number k h)) here
 
 -- A stream without its refused frames leaves the same answers to all the others, and no more, in any room that was enough for the stream.
 pub code_strike_out : (stream room : List ℕ) (code : ℤ) (room' : List ℕ) → length stream ≤ 65535 → length (lines stream) ≤ 1024 → 33 * length (lines stream) ≤ length room

@@ -1,6 +1,7 @@
 -- The service: one frame at a time, refused by the first row of the table that holds, or accepted.
 use Rattle.std.specs.Prelude.{ℕ, ◌+◌, Bool, true, false, not, ◌||◌, List, [], ◌∷◌, eqb, leb, ltb, length, get_or}
-use Rattle.whole.specs.Lists.{given, first, any}
+use Rattle.std.proofs.Math.Option.{Option, none, some}
+use Rattle.whole.specs.Lists.{given, first_given, any}
 use Rattle.frame.specs.Frame.{Frame, begin, point, polygon, end_of_load, move, turn, question, across, broken, decode}
 use Rattle.answer.specs.Answer.{plain, reported, told}
 use Rattle.ring.specs.Polygon.{one}
@@ -10,7 +11,7 @@ use Rattle.places.specs.Points.{is_far_of, stands, stands_else_of}
 use Rattle.building.specs.Tables.{Tables, Building, begun, with_point, with_polygon, entries, loaded, moved, turned}
 use Rattle.building.specs.Report.{report, check_number_of, element_a_of, element_b_of}
 use Rattle.service.specs.declared.Refusal.{Refusal}
-use Rattle.service.specs.declared.Refusal.TheVariants.{Accepted, Malformed, Misplaced, Beyond, Full, Absent, Taken, Late}
+use Rattle.service.specs.declared.Refusal.TheVariants.{Malformed, Misplaced, Beyond, Full, Absent, Taken, Late}
 use Rattle.answer.specs.Answer as Answer
 use Rattle.users.specs.EdgeList as EdgeList
 
@@ -21,15 +22,19 @@ pub data State : Type 0 where
   holding : Building → State
 
 -- the column No.
-unfoldable pub refusal_number_of : Refusal → ℕ
-refusal_number_of Accepted = 0
-refusal_number_of Malformed = 1
-refusal_number_of Misplaced = 2
-refusal_number_of Beyond = 3
-refusal_number_of Full = 4
-refusal_number_of Absent = 5
-refusal_number_of Taken = 6
-refusal_number_of Late = 7
+unfoldable pub row_number_of : Refusal → ℕ
+row_number_of Malformed = 1
+row_number_of Misplaced = 2
+row_number_of Beyond = 3
+row_number_of Full = 4
+row_number_of Absent = 5
+row_number_of Taken = 6
+row_number_of Late = 7
+
+-- the number that is answered: `00` where no row refuses
+unfoldable pub refusal_number_of : Option Refusal → ℕ
+refusal_number_of none = 0
+refusal_number_of (some r) = row_number_of r
 
 -- ---- what is held
 
@@ -144,9 +149,9 @@ is_taken t (across m n) = false
 is_taken t broken = false
 
 -- "Given exactly when, no earlier test having refused"; "The rows stand in the order of testing."
-unfoldable pub refusal : State → Frame → Refusal
+unfoldable pub refusal : State → Frame → Option Refusal
 refusal st f =
-    first Accepted
+    first_given
     (given (is_malformed f) Malformed ∷
     given (is_misplaced_of st f) Misplaced ∷
     given (is_late (building_of st) f) Late ∷
@@ -211,38 +216,26 @@ pub record Outcome : Type 0 where
 
 -- "Refused: the two digits below, and nothing held changes."
 abbrev pub refused : Refusal → State → Outcome
-refused r st = record { next = st; answer = plain (refusal_number_of r) }
+refused r st = record { next = st; answer = plain (row_number_of r) }
 
 -- accepted or refused
-unfoldable pub outcome : Refusal → State → Frame → Outcome
-outcome Accepted st f = record { next = takes st f; answer = answer_to f (takes st f) }
-outcome Malformed st f = refused Malformed st
-outcome Misplaced st f = refused Misplaced st
-outcome Beyond st f = refused Beyond st
-outcome Full st f = refused Full st
-outcome Absent st f = refused Absent st
-outcome Taken st f = refused Taken st
-outcome Late st f = refused Late st
+unfoldable pub outcome : Option Refusal → State → Frame → Outcome
+outcome none st f = record { next = takes st f; answer = answer_to f (takes st f) }
+outcome (some r) st f = refused r st
 
 -- a line is one frame or broken, and is answered
 unfoldable pub step : State → List ℕ → Outcome
 step st l = let f = decode l in outcome (refusal st f) st f
 
 -- whether no row refuses
-unfoldable pub is_accepted_of : Refusal → Bool
-is_accepted_of Accepted = true
-is_accepted_of Malformed = false
-is_accepted_of Misplaced = false
-is_accepted_of Beyond = false
-is_accepted_of Full = false
-is_accepted_of Absent = false
-is_accepted_of Taken = false
-is_accepted_of Late = false
+unfoldable pub is_accepted_of : Option Refusal → Bool
+is_accepted_of none = true
+is_accepted_of (some r) = false
 
 -- whether a line is accepted in a state
 unfoldable pub accepts : State → List ℕ → Bool
 accepts st l = is_accepted_of (refusal st (decode l))
 
 unfoldable pub service_computes : Unit {0}
-unfolding refusal_number_of tables_of building_of is_loading_of is_holding_of is_malformed is_misplaced_of is_late is_absent is_beyond_of is_full is_taken refusal takes report_of told_of across_of answer_to outcome step
+unfolding row_number_of refusal_number_of tables_of building_of is_loading_of is_holding_of is_malformed is_misplaced_of is_late is_absent is_beyond_of is_full is_taken refusal takes report_of told_of across_of answer_to outcome step
 service_computes = tt

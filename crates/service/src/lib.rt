@@ -3,10 +3,9 @@
 
 #![tactic(auto)]
 
-// Why a frame is refused; `Accepted` where no test refuses it. `refusal_number_of` gives document 01's number.
+// Why a frame is refused, a word for each row of the table. `row_number_of` gives document 01's number.
 #[derive(Clone, Copy)]
 pub enum Refusal {
-    Accepted,
     Malformed,
     Misplaced,
     Beyond,

@@ -1,43 +1,23 @@
 // The runs of words of one edge.
-ghost use Rattle.std.specs.Prelude.{◌≡◌, true, false, ◌<◌, ◌≤◌, length, map};
+ghost use Rattle.std.specs.Prelude.{◌≡◌, true, false, ◌<◌, ◌≤◌, length, map, MatchOption};
 ghost use Rattle.words.specs.held.Words.{key_from};
 ghost use Rattle.edges.specs.held.Ascending.{Asc};
-ghost use Rattle.shell.specs.held.Runs.{RunEnd, LeastAt, Between, Twice};
+ghost use Rattle.shell.specs.held.Runs.{LeastAt, Between, Twice};
 
-// Where the run of words of one edge that begins at i ends.
-fn run_end(words: &[u64], i: usize) -> usize
-    requires { i < length words.now }
-    ensures { RunEnd (map key_from words.now) i result }
-{
-    let k = words::key_of(words[i]);
-    let mut j = i + 1;
-    while j < words.len() {
-        let m = words::key_of(words[j]);
-        if m != k {
-            return j;
-        }
-        j += 1;
-    }
-    j
-}
-
-// Where the words of the least edge with at least `least` and at most `most` uses begin, or the number of words.
-pub fn find_run(words: &[u64], least: usize, most: usize) -> usize
+// Where the words of the least edge with at least `least` and at most `most` uses begin.
+pub fn find_run(words: &[u64], least: usize, most: usize) -> Option<usize>
     requires { Asc words.now × (1 ≤ least) }
-    ensures { LeastAt (Between least most (map key_from words.now)) (map key_from words.now) result }
+    ensures { MatchOption result (LeastAt (Between least most (map key_from words.now)) (map key_from words.now) (length words.now)) (λ i. (i < length words.now) × LeastAt (Between least most (map key_from words.now)) (map key_from words.now) i) }
 {
     let mut i = 0;
-    while i < words.len() {
-        let j = run_end(words, i);
-        let n = j - i;
-        if least <= n {
-            if n <= most {
-                return i;
-            }
+    for run in words.chunk_by(|v, w| words::key_of(*v) == words::key_of(*w)) {
+        let n = run.len();
+        if least <= n && n <= most {
+            return Some(i);
         }
-        i = j;
+        i += n;
     }
-    i
+    None
 }
 
 // Whether each edge has two words. It is a sweep without branches, which spares two searches of runs where all is well.
@@ -45,19 +25,22 @@ pub fn paired(words: &[u64]) -> bool
     requires { Asc words.now }
     ensures { (result ≡ true → Twice (map key_from words.now)) × (result ≡ false → Twice (map key_from words.now) → ⊥) }
 {
+    let n = words.len();
     let mut two = true;
-    let mut i = 0;
-    while i + 2 < words.len() {
+    // Each pair but the last, with the word after it.
+    for p in 0..n.saturating_sub(1) / 2 {
+        let i = 2 * p;
         let a = words::key_of(words[i]);
         let b = words::key_of(words[i + 1]);
         let c = words::key_of(words[i + 2]);
-        two = two & (a == b) & (b != c);
-        i += 2;
+        two &= (a == b) & (b != c);
     }
-    if i + 2 != words.len() {
-        return i == words.len();
+    if n == 0 {
+        return true;
     }
-    let a = words::key_of(words[i]);
-    let b = words::key_of(words[i + 1]);
-    two & (a == b)
+    if n % 2 == 1 {
+        return false;
+    }
+    let last = n - 2;
+    two & (words::key_of(words[last]) == words::key_of(words[last + 1]))
 }

@@ -13,23 +13,13 @@ ghost use Rattle.taken.specs.held.Else.{else_at_of};
 ghost use Rattle.taken.specs.held.Buckets.{lift, bucket_of};
 ghost use Rattle.taken.specs.held.Chains.{linked, Chained};
 
-// A coordinate as it is reckoned with.
-fn wide(x: i32) -> i64
-    ensures { result ≡ x }
-{
-    x as i64
-}
-
 // Whether a place is that of point p.
 fn same_place(points: &[i32; 1536], p: usize, x: i64, y: i64, z: i64) -> bool
     requires { (length points.now ≡ 1536) × (p < 512) }
     ensures { result ≡ same_place_of (point3 x y z) (place_at points.now p) }
 {
     let i = 3 * p;
-    let a = wide(points[i]);
-    let b = wide(points[i + 1]);
-    let c = wide(points[i + 2]);
-    (x == a) & (y == b) & (z == c)
+    (x == i64::from(points[i])) & (y == i64::from(points[i + 1])) & (z == i64::from(points[i + 2]))
 }
 
 // The same, of a point that is not number n.
@@ -48,12 +38,10 @@ pub fn stands_else(points: &[i32; 1536], count: usize, n: usize, x: i64, y: i64,
     requires { (length points.now ≡ 1536) × (count ≤ 512) }
     ensures { result ≡ stands_else_of n (point3 x y z) (take count (points_of points.now)) }
 {
-    let mut i = 0;
-    while i < count {
+    for i in 0..count {
         if else_at(points, i, n, x, y, z) {
             return true;
         }
-        i += 1;
     }
     false
 }
@@ -80,11 +68,7 @@ pub fn clear(table: &mut [u64; 1024])
     requires { length table.old ≡ 1024 }
     ensures { table.new ≡ zeroed table.old 512 }
 {
-    let mut b = 0;
-    while b < 512 {
-        table[b] = 0;
-        b += 1;
-    }
+    table[..512].fill(0);
 }
 
 // "the place is that of another point": of one of the first n, looked for along the chain of its bucket.
@@ -95,8 +79,7 @@ pub fn is_taken(points: &[i32; 1536], table: &[u64; 1024], n: usize, x: i64, y: 
 {
     let b = bucket(x, y, z);
     let mut k = table[b] as usize;
-    while 0 < k {
-        let i = k - 1;
+    while let Some(i) = k.checked_sub(1) {
         if same_place(points, i, x, y, z) {
             return true;
         }

@@ -12,12 +12,8 @@ fn faults_in(part: &[u16]) -> u16
     ensures { result ≡ tally (ltb 0) part.now }
 {
     let mut count: u16 = 0;
-    let mut i = 0;
-    while i < part.len() {
-        if part[i] != 0 {
-            count += 1;
-        }
-        i += 1;
+    for finding in part {
+        count += u16::from(*finding != 0);
     }
     count
 }
@@ -27,8 +23,7 @@ pub fn faults_of(findings: &[u16; 256], n: usize) -> usize
     requires { (n ≤ 256) × (length findings.now ≡ 256) }
     ensures { result ≡ tally (ltb 0) (take n findings.now) }
 {
-    let all = &findings[..];
-    faults_in(&all[..n]) as usize
+    usize::from(faults_in(&findings[..n]))
 }
 
 // "The building's six-volume is the sum of the parts": of the first n.
@@ -37,10 +32,8 @@ pub fn six_volume(parts: &[i64; 256], n: usize) -> i64
     ensures { result ≡ sum_of (λ z. z) (take n parts.now) }
 {
     let mut total: i64 = 0;
-    let mut i = 0;
-    while i < n {
-        total += parts[i];
-        i += 1;
+    for part in &parts[..n] {
+        total += *part;
     }
     total
 }

@@ -1,18 +1,20 @@
 -- The search by halves, and the words of one edge, which stand between two bounds.
-use Prim.Native.Nat.{ℕ, ◌+◌, ◌*◌, ◌-◌, ◌≤◌, ◌<◌, min}
+use Prim.Native.Nat.{ℕ, ◌+◌, ◌-◌, ◌≤◌, ◌<◌, min, zero-le}
 use native.Mathlib.Decide.{dec_lt}
 use native.Mathlib.Nat.{le_refl, add-zero}
 use native.Mathlib.Omega.{arith}
 use mathlib.Core.Path.{◌≡◌, sym, ap, ap₂, ◌∙◌}
-use mathlib.Core.Bool.{true, false}
+use mathlib.Core.Bool.{Bool, true, false}
 use mathlib.Core.Logic.{by_cases}
 use mathlib.Core.List.{List, [], ◌++◌, map, append-nil}
-use borrow.Author.Tests.{eq-eqb, ne_eqb}
+use borrow.Author.Tests.{eq-eqb, ne_eqb, ltb-true, ltb-false}
+use lib.Dec.{ltb}
 use lib.ListN.{length, get_or, take, drop, take-append-drop, length-take, length-drop, length-map, get_or-eq_default}
 use lib.Seq.{get_or-take, get_or-drop, length-take-le, drop-drop}
+use Rattle.std.specs.List.Sorted.{IsPartitionedBy, IsPartitionPoint}
+use Rattle.std.proofs.lemmas.List.Sorted.{IsNonDecreasingBy-drop, IsNonDecreasingBy-from_default, IsPartitionedBy-ltb}
 use Rattle.whole.specs.Lists.{keep}
 use Rattle.whole.specs.laws.Places.{map_at}
-use Rattle.edges.specs.Edges.{edge, way}
 use Rattle.edges.specs.held.Ascending.{Asc}
 use Rattle.edges.specs.laws.Ascending.{places_asc}
 use Rattle.words.specs.held.Words.{key_from, poly_from}
@@ -20,56 +22,47 @@ use Rattle.shell.specs.laws.Pairs.{of_edge}
 use Rattle.users.specs.held.Users.{users_in, Halving, Bound, UserAt, Told}
 use Rattle.users.specs.laws.Keeps.{keep_append, keep-none, keep_all}
 
--- ---- the edge between two points
-pub edge-up : (a b : ℕ) → a < b → a * 65536 + b ≡ edge a b
-unfolding edge way
-edge-up a b h = omega arith
-
-pub edge-down : (a b : ℕ) → b ≤ a → b * 65536 + a ≡ edge a b
-unfolding edge way
-edge-down a b h = omega arith
-
 -- ---- the search
 module _ (words : List ℕ) (e : ℕ) where
-  pub halving_none : (n : ℕ) → n ≡ length words → Halving words e 0 n
-  halving_none n z = record { order = omega arith; within = omega arith; below = λ i h. absurd (omega arith); above = λ i h g. absurd (omega arith) }
-
-  -- from where the words of edge e begin, those of the next edge are looked for: up to the end, or up to a word that is past e
+  -- from where the words of edge e begin, those of the next edge begin at the first word that is past e
   module _ (from : ℕ) (b : Bound words e from) where
-    pub halving-rest : (n : ℕ) → n ≡ length words → Halving words (e + 1) from n
-    halving-rest n z = record { order = omega (arith, b.within); within = omega arith; below = λ i h. omega (arith, b.below i h); above = λ i h g. absurd (omega arith) }
-
-    pub halving-few : Asc words → (hi : ℕ) → from ≤ hi → hi < length words → e < key_from (get_or words hi 0) → Halving words (e + 1) from hi
-    halving-few a hi g h t =
+    pub past : Asc words → (i : ℕ) → i < length words → ((k : ℕ) → from ≤ k → k < i → key_from (get_or words k 0) ≤ e) → e < key_from (get_or words i 0) → Bound words (e + 1) i
+    past a i h near t =
         record {
-          order = g;
           within = omega arith;
-          below = λ i k. omega (arith, b.below i k);
-          above = λ i k l. let q : get_or words hi 0 ≤ get_or words i 0 = places_asc words a hi i k l in omega arith;
+          below = λ k l. by_cases (dec_lt k from) (λ lt. omega (arith, b.below k lt)) (λ n. omega (arith, near k (omega arith) l));
+          above = λ k g l. let q : get_or words i 0 ≤ get_or words k 0 = places_asc words a i k g l in omega arith;
         }
 
-  module _ (a : Asc words) (lo hi : ℕ) (s : Halving words e lo hi) (mid : ℕ) (g : lo ≤ mid) (h : mid < hi) where
-    pub halving-up : key_from (get_or words mid 0) < e → Halving words e (mid + 1) hi
-    halving-up t =
-        record {
-          order = omega arith;
-          within = s.within;
-          below = λ i b. let k : get_or words i 0 ≤ get_or words mid 0 = places_asc words a i mid (omega arith) (omega (arith, s.within)) in omega arith;
-          above = s.above;
-        }
+  -- the words from lo on are in order, so where the first of them is that is not below edge e, all before it are
+  module _ (a : Asc words) (lo : ℕ) (s : Halving words e lo (length words)) where
+    abbrev before : ℕ → Bool
+    before w = ltb (key_from w) e
 
-    pub halving-down : e ≤ key_from (get_or words mid 0) → Halving words e lo mid
-    halving-down t =
-        record {
-          order = g;
-          within = omega (arith, s.within);
-          below = s.below;
-          above = λ i b c. let k : get_or words mid 0 ≤ get_or words i 0 = places_asc words a mid i b c in omega arith;
-        }
+    pub parted : IsPartitionedBy before (drop lo words)
+    parted = IsPartitionedBy-ltb key_from (drop lo words) e (IsNonDecreasingBy-drop key_from lo words (IsNonDecreasingBy-from_default key_from words 0 rising))
+      where
+        rising : (i j : ℕ) → i ≤ j → j < length words → key_from (get_or words i 0) ≤ key_from (get_or words j 0)
+        rising i j h k = let q : get_or words i 0 ≤ get_or words j 0 = places_asc words a i j h k in omega arith
 
-  pub halving_done : (lo hi : ℕ) → Halving words e lo hi → hi ≤ lo → Bound words e lo
-  halving_done lo hi s h =
-      record { within = omega (arith, s.order, s.within); below = s.below; above = λ i b c. s.above i (omega (arith, s.order)) c }
+    pub bound_at : (i : ℕ) → i ≤ length (drop lo words) → IsPartitionPoint (λ w. before w ≡ true) (λ w. before w ≡ false) (drop lo words) i → Bound words e (lo + i)
+    bound_at i h p = record {
+      within = omega (arith, long, s.order);
+      below = λ k b. by_cases (dec_lt k lo) (s.below k) (λ n. low (k - lo) k (omega arith) (omega arith));
+      above = λ k b c. high (k - lo) k (omega arith) (omega arith) c;
+    }
+      where
+        long : length (drop lo words) ≡ length words - lo
+        long = length-drop lo words
+
+        at-lo : (m k : ℕ) → lo + m ≡ k → get_or (drop lo words) m 0 ≡ get_or words k 0
+        at-lo m k z = get_or-drop lo words m 0 ∙ ap (λ (x : ℕ). get_or words x 0) z
+
+        low : (m k : ℕ) → lo + m ≡ k → m < i → key_from (get_or words k 0) < e
+        low m k z lt = rw (at-lo m k z) at (ltb-true _ _ (p.0 m 0 zero-le lt))
+
+        high : (m k : ℕ) → lo + m ≡ k → i ≤ m → k < length words → e ≤ key_from (get_or words k 0)
+        high m k z le lt = rw (at-lo m k z) at (ltb-false _ _ (p.1 m 0 le (omega (arith, long))))
 
 -- ---- the words of one edge stand between two bounds
 

@@ -3,76 +3,47 @@
 #![tactic(auto)]
 
 ghost use Rattle.std.specs.Prelude.{◌≡◌, ◌<◌};
-ghost use Rattle.space.specs.held.Points.{points_of, Coords, Known, place_at, at};
+ghost use Rattle.space.specs.held.Points.{points_of, Known, Near, as_point, place_at};
 ghost use Rattle.space.specs.Space.{determinant};
-ghost use Rattle.volume.specs.held.Rows.{row_of, Rows, Nine};
 ghost use Rattle.volume.specs.Part.{part};
 
-// The determinant's formula.
-fn nine(a: i64, b: i64, c: i64, d: i64, e: i64, f: i64, g: i64, h: i64, i: i64) -> i64
-    requires { Nine a b c d e f g h i }
-    ensures { result ≡ determinant (at a b c) (at d e f) (at g h i) }
-{
-    a * (e * i - f * h) - b * (d * i - f * g) + c * (d * h - e * g)
-}
+use space::{Place, Points};
 
 // "the three points taken as three rows of three numbers"
-fn determinant(m: [[i64; 3]; 3]) -> i64
-    requires { Rows m }
-    ensures { result ≡ determinant (row_of m 0) (row_of m 1) (row_of m 2) }
+fn determinant(a: Place, b: Place, c: Place) -> i64
+    requires first { Near 100000 (as_point a) }
+    requires second { Near 100000 (as_point b) }
+    requires third { Near 100000 (as_point c) }
+    ensures { result ≡ determinant (as_point a) (as_point b) (as_point c) }
 {
-    let a = m[0][0];
-    let b = m[0][1];
-    let c = m[0][2];
-    let d = m[1][0];
-    let e = m[1][1];
-    let f = m[1][2];
-    let g = m[2][0];
-    let h = m[2][1];
-    let i = m[2][2];
-    nine(a, b, c, d, e, f, g, h, i)
+    a.x * (b.y * c.z - b.z * c.y) - a.y * (b.x * c.z - b.z * c.x) + a.z * (b.x * c.y - b.y * c.x)
 }
 
 // "the determinant of first, p, q"
-fn determinant_of(points: &[i32; 1536], first: u16, p: u16, q: u16) -> i64
-    requires coords { Coords points.now }
-    requires first_bound { (first < 512) × (p < 512) × (q < 512) }
-    ensures { result ≡ determinant (place_at points.now first) (place_at points.now p) (place_at points.now q) }
+fn determinant_of(points: &Points, first: u16, p: u16, q: u16) -> i64
+    requires { (first < 512) × (p < 512) × (q < 512) }
+    ensures { result ≡ determinant (place_at points.now.flat first) (place_at points.now.flat p) (place_at points.now.flat q) }
 {
-    let a = space::place_of(points, first);
-    let b = space::place_of(points, p);
-    let c = space::place_of(points, q);
-    let ax = a.x;
-    let ay = a.y;
-    let az = a.z;
-    let bx = b.x;
-    let by = b.y;
-    let bz = b.z;
-    let cx = c.x;
-    let cy = c.y;
-    let cz = c.z;
-    determinant([[ax, ay, az], [bx, by, bz], [cx, cy, cz]])
+    let a = points.place(first);
+    let b = points.place(p);
+    let c = points.place(q);
+    determinant(a, b, c)
 }
 
 // A polygon's part of the six-volume: "the sum, over consecutive entries p, q, of the determinant of first, p, q".
-pub fn part_of(points: &[i32; 1536], ring: &[u16]) -> i64
-    requires coords { Coords points.now }
-    requires known { Known ring.now }
-    ensures { result ≡ part (points_of points.now) ring.now }
+pub fn part_of(points: &Points, ring: &[u16]) -> i64
+    requires { Known ring.now }
+    ensures { result ≡ part (points_of points.now.flat) ring.now }
 {
-    let mut sum: i64 = 0;
-    let n = ring.len();
-    if n == 0 {
-        return sum;
+    if ring.is_empty() {
+        return 0;
     }
     let first = ring[0];
     let mut last = first;
-    let mut j: usize = 1;
-    while j < n {
-        let next = ring[j];
-        sum += determinant_of(points, first, last, next);
-        last = next;
-        j += 1;
+    let mut sum: i64 = 0;
+    for next in &ring[1..] {
+        sum += determinant_of(points, first, last, *next);
+        last = *next;
     }
     sum
 }

@@ -5,8 +5,8 @@
 ghost use Rattle.std.specs.Prelude.{◌≡◌, ◌+◌, ◌*◌, ◌^◌, ◌<◌, nat_lt, unsigned_abs};
 ghost use Rattle.wide.specs.Value.{value};
 
-// The number `high` · 2^64 + `low`.
-#[derive(Clone, Copy)]
+// The number `high` · 2^64 + `low`. The high word comes first, so that the derived order is the numbers' order.
+#[derive(Clone, Copy, PartialEq, Eq, PartialOrd, Ord)]
 pub struct Wide {
     pub high: u64,
     pub low: u64,
@@ -34,37 +34,23 @@ pub fn sum(a: Wide, b: Wide) -> Wide
     requires { value a + value b < 2 ^ 128 }
     ensures { value result ≡ value a + value b }
 {
-    let ah = a.high;
-    let al = a.low;
-    let bh = b.high;
-    let bl = b.low;
-    let low = std::num::wrapping_add_u64(al, bl);
-    if low < al {
-        Wide {
-            high: ah + bh + 1,
-            low,
-        }
-    } else {
-        Wide { high: ah + bh, low }
-    }
+    let (low, carried) = a.low.overflowing_add(b.low);
+    let high = a.high + b.high + u64::from(carried);
+    Wide { high, low }
 }
 
 // Whether a is less than b.
 pub fn is_less(a: Wide, b: Wide) -> bool
     ensures { result ≡ nat_lt (value a) (value b) }
 {
-    let ah = a.high;
-    let al = a.low;
-    let bh = b.high;
-    let bl = b.low;
-    (ah < bh) | ((ah == bh) & (al < bl))
+    a < b
 }
 
 // The size of a signed word.
 pub fn size(z: i64) -> u64
     ensures { result ≡ unsigned_abs z }
 {
-    if z < 0 { (-1 - z) as u64 + 1 } else { z as u64 }
+    z.unsigned_abs()
 }
 
 // The sum of three squares.

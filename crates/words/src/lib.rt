@@ -3,7 +3,7 @@
 #![tactic(auto)]
 
 ghost use Rattle.std.specs.Prelude.{◌≡◌, ◌<◌};
-ghost use Rattle.words.specs.held.Words.{key_from, node_of, Mate};
+ghost use Rattle.words.specs.held.Words.{key_from, node_of, number_of, Mate};
 
 // The edge that a word is of.
 pub fn key_of(w: u64) -> u64
@@ -12,21 +12,42 @@ pub fn key_of(w: u64) -> u64
     w / 536870912
 }
 
-// What a word joins: 0 its polygon, 1 its corner at the edge's smaller end, 2 that at the larger. The two corners are swapped by
-// arithmetic: a branch on the direction, which follows no rule, would cost more.
-pub fn node_of(w: u64, which: u8) -> usize
-    ensures { (result ≡ node_of which w) × (result < 1024) }
-{
-    if which == 0 {
-        return (w / 2097152 % 256) as usize;
+// What a word joins: its polygon, its corner at the edge's smaller end, and that at the larger.
+#[derive(Clone, Copy)]
+pub enum Node {
+    Polygon,
+    Smaller,
+    Larger,
+}
+
+// The one of a number: 0 the polygon, 1 the smaller end's corner, any other the larger end's.
+impl From<u8> for Node {
+    ghost use Rattle.std.specs.Prelude.{◌≡◌, ℕ};
+    ghost use Rattle.words.specs.held.Words.{node_of, number_of};
+
+    ghost from_gives = { λ which r. (w : ℕ) → node_of (number_of r) w ≡ node_of which w };
+
+    fn from(which: u8) -> Node {
+        match which {
+            0 => Node::Polygon,
+            1 => Node::Smaller,
+            _ => Node::Larger,
+        }
     }
+}
+
+// One of the three. The two corners are swapped by arithmetic: a branch on the direction, which follows no rule, would cost more. Which
+// of the three is asked for is mostly known when the call is compiled, so that the match costs nothing.
+pub fn node_of(w: u64, which: Node) -> usize
+    ensures { (result ≡ node_of (number_of which) w) × (result < 1024) }
+{
     let s = w / 2048 % 1024;
     let t = w / 2 % 1024;
     let swap = (s ^ t) * (w % 2);
-    if which == 1 {
-        (s ^ swap) as usize
-    } else {
-        (t ^ swap) as usize
+    match which {
+        Node::Polygon => (w / 2097152 % 256) as usize,
+        Node::Smaller => (s ^ swap) as usize,
+        Node::Larger => (t ^ swap) as usize,
     }
 }
 

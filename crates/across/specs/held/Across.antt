@@ -1,5 +1,5 @@
 -- What frame 0C asks of the edge table, and the rows that can refuse it.
-use Rattle.std.specs.Prelude.{ℕ, ◌≤◌, ◌<◌, ◌≡◌, true, List, length, take}
+use Rattle.std.specs.Prelude.{ℕ, ◌≤◌, ◌<◌, ◌≡◌, true, List, take, Result, ⊤}
 use Rattle.frame.specs.Frame.{across}
 use Rattle.edges.specs.held.Ascending.{Asc}
 use Rattle.service.specs.declared.Refusal.{Refusal}
@@ -9,7 +9,6 @@ use Rattle.desk.specs.held.Row.{Row}
 
 -- while a building is held the table begins with its words, in order
 pub record Sorted (table : List ℕ) (d : Desk) : Type 0 where
-  pub size : length table ≡ 1024
   pub room : holds d.mode ≡ true → d.held.edges ≤ 1024
   pub words : holds d.mode ≡ true → Asc (take d.held.edges table)
 
@@ -21,5 +20,5 @@ pub record Points (d : Desk) (m n : ℕ) : Type 0 where
   pub differ : m ≡ n → ⊥
 
 -- frame 0C; accepted, it names such points
-abbrev pub AcrossRow : Desk → ℕ → ℕ → Refusal → Type 0
+abbrev pub AcrossRow : Desk → ℕ → ℕ → Result ⊤ Refusal → Type 0
 AcrossRow d m n r = Row d (λ a. Unit {0}) (across m n) (Points d m n) r

@@ -1,7 +1,7 @@
 -- For the public function: any two results that its statement allows agree in the whole room, the place of the next answer, and what is held.
 use Rattle.std.specs.Prelude.{ℕ, List}
 use Rattle.frame.specs.Frame.{across}
-use Rattle.building.specs.held.Holds.{Arrays}
+use Rattle.building.specs.declared.Arrays.{Arrays}
 use Rattle.desk.specs.declared.Desk.{Desk}
 use Rattle.desk.specs.held.Holds.{service, Did, does}
 use Rattle.desk.specs.laws.Agree.{Same, did_agree}

@@ -1,5 +1,5 @@
 -- What frame 0C has done: what it wrote is the outcome of its frame, by the edge table that is kept with the building.
-use Rattle.std.specs.Prelude.{ℕ, ◌≡◌, true, take}
+use Rattle.std.specs.Prelude.{ℕ, ◌≡◌, take}
 use Rattle.std.proofs.Common.{arith, sym, ◌∙◌, subst}
 use Rattle.std.proofs.Math.Path.{refl, ap}
 use mathlib.Core.List.{List}
@@ -13,9 +13,10 @@ use Rattle.users.specs.EdgeList.{Listed}
 use Rattle.users.specs.held.Users.{users_in, Told}
 use Rattle.users.proofs.laws.Words.{told-across}
 use Rattle.ring.specs.Polygon.{Polygon}
-use Rattle.building.specs.held.Holds.{Arrays, held_tables, held_building}
-use Rattle.service.specs.declared.Refusal.{Refusal}
-use Rattle.service.specs.Service.{State, tables_of, refusal, takes, across_of, answer_to, is_accepted_of}
+use Rattle.building.specs.declared.Arrays.{Arrays}
+use Rattle.building.specs.held.Holds.{held_tables, held_building}
+use Rattle.std.proofs.Math.Option.{none}
+use Rattle.service.specs.Service.{State, tables_of, refusal, takes, across_of, answer_to}
 use Rattle.desk.specs.declared.Desk.{Desk}
 use Rattle.desk.specs.held.Holds.{service, Valid, Did, does}
 use Rattle.desk.specs.laws.Rows.{service-holds}
@@ -28,7 +29,6 @@ use Rattle.users.specs.EdgeList as EdgeList
 pub valid_sorted : (a : Arrays) (d : Desk) → Valid a d → Sorted a.table d
 valid_sorted a d v =
     record {
-      size = v.sizes.table;
       room = λ h. omega (arith, (valid_held a d v h).kept.listed.room, v.sizes.table);
       words = λ h. let l = (valid_held a d v h).kept.listed in subst Asc (sym l.words) (asc_ascending _);
     }
@@ -43,11 +43,11 @@ module _ (a : Arrays) (d : Desk) (v : Valid a d) (m n : ℕ) (fit : Points d m n
       (subst (λ (w : List ℕ). Told (users_in (edge m n) w) c l s) k.words t) in
       ap (λ (e : Listed). Answer.across e.users e.lowest e.second) (sym (ap (λ (ps : List Polygon). EdgeList.across m n ps) k.present ∙ told))
 
-  pub did_across : (r : Refusal) → r ≡ refusal (service a d) (across m n) → is_accepted_of r ≡ true → (room room' : List ℕ) (at : ℕ) → Wrote (ended (Answer.across c l s)) room d.at room' at
+  pub did_across : refusal (service a d) (across m n) ≡ none → (room room' : List ℕ) (at : ℕ) → Wrote (ended (Answer.across c l s)) room d.at room' at
       → Did (does (service a d) (across m n)) room d.at a room' (record { mode = d.mode; held = d.held; at = at })
   unfolding takes answer_to service tables_of
-  did_across r row accepted room room' at w =
-      did_accepted (service a d) (across m n) r room room' d.at a (record { mode = d.mode; held = d.held; at = at }) row accepted
+  did_across row room room' at w =
+      did_accepted (service a d) (across m n) room room' d.at a (record { mode = d.mode; held = d.held; at = at }) row
       (valid_at a d v at)
       refl
       (subst (λ (x : List ℕ). Wrote (ended x) room d.at room' at) (users_told ∙ ap (λ (st : State). across_of m n (tables_of st)) (sym (service-holds a d fit.holding))) w)

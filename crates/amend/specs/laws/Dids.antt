@@ -13,10 +13,11 @@ use Rattle.places.specs.held.Places.{point3}
 use Rattle.places.specs.Points.{is_far_of}
 use Rattle.building.specs.declared.Scalars.{Scalars}
 use Rattle.building.specs.Tables.{moved}
-use Rattle.building.specs.held.Holds.{Arrays, held_tables, held_building}
+use Rattle.building.specs.declared.Arrays.{Arrays}
+use Rattle.building.specs.held.Holds.{tables_in, held_tables, held_building}
 use Rattle.building.specs.laws.Load.{tables-points}
-use Rattle.service.specs.declared.Refusal.{Refusal}
-use Rattle.service.specs.Service.{State, holding, tables_of, building_of, is_misplaced_of, is_absent, is_beyond_of, refusal, takes, report_of, answer_to, is_accepted_of}
+use Rattle.std.proofs.Math.Option.{none}
+use Rattle.service.specs.Service.{State, holding, tables_of, building_of, is_misplaced_of, is_absent, is_beyond_of, refusal, takes, report_of, answer_to}
 use Rattle.service.proofs.laws.Fresh.{Passed}
 use Rattle.modes.specs.declared.Mode.TheVariants.{Holding}
 use Rattle.desk.specs.declared.Desk.{Desk}
@@ -26,9 +27,9 @@ use Rattle.desk.specs.laws.Rows.{tables, service-holds}
 use Rattle.desk.specs.laws.Dids.{passed_row, holding_mode, did_report}
 use Rattle.building.specs.held.Holds as B
 
-module _ (a : Arrays) (d : Desk) (v : Valid a d) (number p : ℕ) (x y z : ℤ) (r : Refusal) (row : r ≡ refusal (service a d) (move number p x y z)) (t : is_accepted_of r ≡ true) where
+module _ (a : Arrays) (d : Desk) (v : Valid a d) (number p : ℕ) (x y z : ℤ) (row : refusal (service a d) (move number p x y z) ≡ none) where
   move_passed : Passed (service a d) (move number p x y z)
-  move_passed = passed_row (service a d) (move number p x y z) r row t
+  move_passed = passed_row (service a d) (move number p x y z) row
 
   pub move_holds : holds d.mode ≡ true
   unfolding is_misplaced_of service
@@ -45,9 +46,9 @@ module _ (a : Arrays) (d : Desk) (v : Valid a d) (number p : ℕ) (x y z : ℤ) 
       omega (arith, leb-false (length (tables a d).points) p k, tables-points v.loaded)
 
   pub did_move : (q : Point) → q ≡ point3 x y z → (a' : Arrays) (s : Scalars) → B.Did (moved number p q (held_building a d.held)) a' s
-      → (room room' : List ℕ) (at : ℕ) → Wrote (ended (report_of (held_tables a'.points a'.entries a'.starts a'.firsts s))) room d.at room' at
+      → (room room' : List ℕ) (at : ℕ) → Wrote (ended (report_of (tables_in a' s))) room d.at room' at
       → Did (does (service a d) (move number p x y z)) room d.at a' room' (record { mode = Holding; held = s; at = at })
   unfolding takes answer_to tables_of building_of
   did_move q e =
-      did_report a d (move number p x y z) r row t (moved number p q (held_building a d.held))
+      did_report a d (move number p x y z) row (moved number p q (held_building a d.held))
       (ap (λ (st : State). takes st (move number p x y z)) (service-holds a d move_holds) ∙ ap (λ (w : Point). holding (moved number p w (held_building a d.held))) (sym e)) refl

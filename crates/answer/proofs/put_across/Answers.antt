@@ -1,12 +1,8 @@
 -- `put_across` meets its contract, field by field.
 use mathlib.Core.Path.{refl}
-use lib.ListN.{length-set}
 use Rattle.answer.specs.Answer.{across}
 use Rattle.answer.specs.laws.Room.{put_first, put_then, put_end}
 use Rattle.answer.proofs.put_across.Goals as goal
-
-pub shape_of-room : goal.shape_of-room
-shape_of-room c = simp length-set (cc)
 
 pub returns : goal.returns
 unfolding across

@@ -6,4 +6,4 @@ use Rattle.answer.proofs.put_plain.Goals as goal
 
 pub returns : goal.returns
 unfolding plain
-returns c = put_end (put_first 2 c.args.n c.put_digits.ensures) refl
+returns c = put_end (put_first 2 c.args.n (rw c.from.ensures at c.put_digits.ensures)) refl

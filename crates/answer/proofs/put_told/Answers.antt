@@ -1,19 +1,15 @@
 -- `put_told` meets its contract, field by field; the part goes out as its 64 bits.
-use mathlib.Core.Path.{refl, ◌∙◌, ap}
-use lib.ListN.{length-set}
-use mir.Facts.{to_z-of_z}
+use mathlib.Core.Path.{refl, ◌∙◌}
 use Rattle.hexadecimal.specs.Hex.{bits64}
 use Rattle.answer.specs.Answer.{told}
 use Rattle.answer.specs.laws.Room.{put_first, put_then, put_end}
+use Rattle.answer.proofs.Bits.{bits_are}
 use Rattle.answer.proofs.put_told.Goals as goal
-
-pub shape_of-room : goal.shape_of-room
-shape_of-room c = simp length-set (cc)
 
 pub returns : goal.returns
 unfolding told
 returns c = let a = c.args in
-    let b = c.bits.ensures ∙ ap bits64 (to_z-of_z c.ranges.part) in
+    let b = c.cast_unsigned.ensures ∙ bits_are a.part c.ranges.part in
     let e = rw b at c.put_digits-5.ensures in
     put_end
     (put_then 16 (bits64 a.part)
@@ -21,8 +17,8 @@ returns c = let a = c.args in
     (put_then 4 a.position
     (put_then 2 a.finding
     (put_first 2 0 c.put_digits.ensures)
-    c.put_digits-2.ensures)
+    (rw c.from.ensures at c.put_digits-2.ensures))
     c.put_digits-3.ensures)
-    c.put_digits-4.ensures)
+    (rw c.from-2.ensures at c.put_digits-4.ensures))
     e)
     refl

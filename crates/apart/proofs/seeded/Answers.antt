@@ -6,4 +6,4 @@ use Rattle.apart.proofs.Lowest.{seed_first}
 use Rattle.apart.proofs.seeded.Goals as goal
 
 pub returns : goal.returns
-returns c = let e = c.mark.ensures in (e.0, subst Seeded (sym e.1) (seed_first _ (words-blank 4)))
+returns c = subst Seeded (sym c.mark.ensures.1) (seed_first _ (words-blank 4))

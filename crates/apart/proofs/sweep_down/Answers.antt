@@ -1,36 +1,17 @@
 -- What is left to show of `sweep_down`.
+use Prim.Native.Nat.{◌*◌, ◌/◌}
 use native.Mathlib.Omega.{arith}
-use mathlib.Core.Path.{◌∙◌}
+use mathlib.Core.Path.{◌≡◌, ◌∙◌}
 use Rattle.bits.specs.laws.Words.{spread_small}
 use Rattle.reach.specs.laws.Marks.{words_marks}
-use Rattle.apart.proofs.Sweeps.{down-none, down_still, down_marked, down_done}
+use Rattle.apart.proofs.Sweeps.{down-none, down_more}
 use Rattle.apart.proofs.sweep_down.Goals as goal
 
 pub loop-i-init : goal.loop-i-init
-loop-i-init c = (c.requires.0, down-none _ _ _ c.requires.2)
-
-pub bounds-words-i : goal.bounds-words-i
-bounds-words-i c = omega (arith, c.loop-i.invariant.1.upto, c.requires.1, c.loop-i-test.true)
-
-pub bounds-words-i-in-loop-i : goal.bounds-words-i-in-loop-i
-bounds-words-i-in-loop-i c = omega (arith, c.loop-i.invariant.1.upto, c.requires.1, c.loop-i-test.true)
-
-pub join-made-requires : goal.join-made-requires
-join-made-requires c = let s = c.loop-i.invariant.0 in (omega (arith, c.poly_of.ensures.1, s), omega (arith, c.poly_of-in-loop-i.ensures.1, s))
-
-pub loop-i-preserved-then-made-ne0 : goal.loop-i-preserved-then-made-ne0
-loop-i-preserved-then-made-ne0 c = let l = c.loop-i.invariant in
-    let x = c.poly_of.ensures in
-    let y = c.poly_of-in-loop-i.ensures in
-    let j = c.join-made.ensures in
-    (j.0 ∙ l.0, down_marked _ _ _ _ _ _ _ _ _ _ _ (words_marks 4 _ l.0).size (spread_small 64 _) l.1 (omega (arith, c.loop-i-test.true)) c.requires.1 x.0 y.0 x.1 y.1 j.1)
+loop-i-init c = let whole : 2 * (c.args.from / 2) ≡ c.args.from = omega (arith, c.requires.1) in
+    (c.told-marks, rw whole (down-none _ _ _ c.requires.1))
 
 pub loop-i-preserved : goal.loop-i-preserved
 loop-i-preserved c = let l = c.loop-i.invariant in
-    let x = c.poly_of.ensures in
-    let y = c.poly_of-in-loop-i.ensures in
-    let j = c.join-made.ensures in
-    (j.0 ∙ l.0, down_still _ _ _ _ _ _ _ _ _ _ _ (words_marks 4 _ l.0).size (spread_small 64 _) l.1 (omega (arith, c.loop-i-test.true)) c.requires.1 x.0 y.0 x.1 y.1 j.1 (omega (arith, c.if-made-ne0.false)))
-
-pub returns : goal.returns
-returns c = let l = c.loop-i.invariant in (l.0, down_done _ _ _ _ _ _ l.1 (omega (arith, c.loop-i-test.false)))
+    let j = c.join-some.ensures in
+    (j.0 ∙ l.0, down_more _ _ _ _ _ _ _ _ _ _ _ (words_marks 4 _ l.0).size (spread_small 64 _) l.1 (omega arith) c.requires.0 c.node_of-p.ensures.0 c.node_of-q.ensures.0 (omega arith) (omega arith) j.1)

@@ -1,12 +1,10 @@
 -- `apart::visit` meets its contract.
 use Rattle.apart.proofs.Queues.{Visiting}
-use mathlib.Core.Path.{◌≡◌}
-use lib.ListN.{length}
 use Rattle.bits.specs.held.Bits.{marks_of}
 use Rattle.apart.proofs.visit.Given as goal
 
 abbrev pub invariant-loop-j : goal.invariant-loop-j
-invariant-loop-j l = (length l.marks ≡ 4) × Visiting l.words l.p (marks_of l.initial.marks) l.initial.found l.to (marks_of l.marks) l.found l.t l.j
+invariant-loop-j l = Visiting l.words l.p (marks_of l.initial.marks) l.initial.found l.to (marks_of l.marks) l.found l.t l.j
 
 abbrev pub decreases-loop-j : goal.decreases-loop-j
 decreases-loop-j l = l.j

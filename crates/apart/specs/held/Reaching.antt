@@ -1,5 +1,5 @@
 -- What the single steps of check 0B leave: marks of polygons that spread across pairs of words.
-use Rattle.std.specs.Prelude.{ℕ, ◌+◌, ◌%◌, ◌≤◌, ◌<◌, ◌≡◌, ◌⊎◌, List, length, get_or}
+use Rattle.std.specs.Prelude.{ℕ, Bool, false, ◌+◌, ◌%◌, ◌≤◌, ◌<◌, ◌≡◌, ◌⊎◌, List, length, get_or}
 use Rattle.words.specs.held.Words.{poly_from}
 use Rattle.reach.specs.Reach.{Reach}
 use Rattle.reach.specs.held.Marking.{Joined, Marked, Marks, zeros, Grown}
@@ -16,9 +16,9 @@ pub record SweptUp (l m₀ m : List ℕ) (r : ℕ) : Type 0 where
   pub level : Level l m r (length l)
 
 -- a sweep down from a place: where it marks none, the marks below agree
-pub record SweptDown (l : List ℕ) (from : ℕ) (m₀ m : List ℕ) (r : ℕ) : Type 0 where
+pub record SweptDown (l : List ℕ) (from : ℕ) (m₀ m : List ℕ) (r : Bool) : Type 0 where
   pub grown : Grown (Joined l poly_from) m₀ m
-  pub level : r ≡ 0 → (m ≡ m₀) × Level l m 0 from
+  pub level : r ≡ false → (m ≡ m₀) × Level l m 0 from
 
 -- polygon 0 alone is marked
 pub record Seeded (m : List ℕ) : Type 0 where

@@ -6,8 +6,8 @@ use Rattle.asking.proofs.of_question.Goals as goal
 pub returns-then-not-is_holding : goal.returns-then-not-is_holding
 returns-then-not-is_holding c = question_misplaced c.args.d c.args.p (sym c.is_holding.ensures ∙ c.if-not-is_holding.true)
 
-pub returns-then-n-p : goal.returns-then-n-p
-returns-then-n-p c = question-absent c.args.d c.args.p (sym c.is_holding.ensures ∙ c.if-not-is_holding.false) c.if-n-p.true
+pub returns-then-d-p : goal.returns-then-d-p
+returns-then-d-p c = question-absent c.args.d c.args.p (sym c.is_holding.ensures ∙ c.if-not-is_holding.false) c.if-d-p.true
 
 pub returns : goal.returns
-returns c = question-accepted c.args.d c.args.p (sym c.is_holding.ensures ∙ c.if-not-is_holding.false) c.if-n-p.false
+returns c = question-accepted c.args.d c.args.p (sym c.is_holding.ensures ∙ c.if-not-is_holding.false) c.if-d-p.false

@@ -3,7 +3,9 @@ use Prim.Native.Nat.{ℕ, zero, suc, ◌+◌, ◌*◌, ◌/◌, ◌%◌, ◌≤�
 use Rattle.std.proofs.Common.{add_assoc, suc-add, suc-mul, zero-mul, zero-add, div-add-mod', add-one, ◌∙◌}
 use Rattle.std.proofs.Math.Nat.{add_comm, add-zero}
 use native.Mathlib.Omega.{arith}
-use Rattle.std.specs.Prelude.{◌≡◌, drop, eqb}
+use Rattle.std.specs.Prelude.{◌≡◌, ◌^◌, drop, eqb, map, sum}
+use Rattle.std.specs.Int.Count.{ones}
+use Rattle.std.proofs.lemmas.List.Sums.{sum-map, sum_by-cons}
 use Rattle.std.proofs.Math.Path.{refl, sym, ap, ap₂}
 use mathlib.Core.List.{List, [], ◌∷◌, ◌++◌}
 use Rattle.std.proofs.Math.ListN.{length, get_or, set, length-append, get_or-append}
@@ -14,7 +16,7 @@ use Rattle.whole.specs.laws.Index.{index_past, index_within}
 use Rattle.whole.specs.laws.Search.{drop-next, drop_end}
 use Rattle.bits.specs.Lowest.{lowest_bare_of}
 use Rattle.bits.specs.held.Bits.{bits_of, spread, marks_of, sum_of}
-use Rattle.bits.specs.laws.Word.{length-bits, bit_small, bits_none}
+use Rattle.bits.specs.laws.Word.{length-bits, bit_small, bits_none, bits-sum}
 
 -- a store, and what holds of all, in the second of two lists
 set_second : (a b : List ℕ) (i x : ℕ) → set (a ++ b) (length a + i) x ≡ a ++ set b i x
@@ -139,6 +141,16 @@ module _ (n : ℕ) where
   pub summed_done : (ws : List ℕ) (i all : ℕ) → Summed ws i all → i ≡ length ws → all ≡ sum_of (spread n ws)
   unfolding spread sum_of
   summed_done ws i all s e = sym (add-zero all) ∙ ap (λ (l : List ℕ). all + sum_of (spread n l)) (sym (drop_end ws i e)) ∙ s.sum
+
+-- ---- words of 64 bits: the marks set are the bits set of each word
+pub ones_each : (ws : List ℕ) → ((i : ℕ) → get_or ws i 0 < 2 ^ 64) → sum (map ones ws) ≡ sum_of (marks_of ws)
+unfolding spread sum_of
+ones_each [] h = refl
+ones_each (w ∷ ws) h =
+    sum-map ones (w ∷ ws)
+    ∙ sum_by-cons ones w ws
+    ∙ ap₂ (λ (x y : ℕ). x + y) (bits-sum 64 w (h 0)) (sym (sum-map ones ws) ∙ ones_each ws (λ i. h (suc i)))
+    ∙ sym (sum_append (bits_of 64 w) (spread 64 ws))
 
 -- ---- words of 64 bits: the mark of p is bit p % 64 of word p / 64
 module _ (ws : List ℕ) (p : ℕ) (h : p / 64 < length ws) where

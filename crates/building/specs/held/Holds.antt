@@ -8,6 +8,7 @@ use Rattle.ring.specs.held.Rings.{ring_at, polygon_at, polygons, Layout}
 use Rattle.shell.specs.held.Held.{Entries}
 use Rattle.shell.specs.declared.Shape.{Shape}
 use Rattle.shell.specs.held.Kept.{Listed, Edged, now_of, alike_in}
+use Rattle.building.specs.declared.Arrays.{Arrays}
 use Rattle.building.specs.declared.Scalars.{Scalars}
 use Rattle.polygon.specs.held.Findings.{kept_finding}
 use Rattle.building.specs.Tables.{Tables, Building}
@@ -21,27 +22,15 @@ held_tables points entries starts firsts s =
       polygons = polygons entries starts firsts s.polygons;
     }
 
--- all arrays
-pub record Arrays : Type 0 where
-  pub points : List ℤ
-  pub entries : List ℕ
-  pub starts : List ℕ
-  pub firsts : List ℕ
-  pub stamps : List ℕ
-  pub findings : List ℕ
-  pub parts : List ℤ
-  pub table : List ℕ
-  pub turned : List ℕ
-
-abbrev pub arrays : List ℤ → List ℕ → List ℕ → List ℕ → List ℕ → List ℕ → List ℤ → List ℕ → List ℕ → Arrays
-arrays points entries starts firsts stamps findings parts table turned =
-    record { points = points; entries = entries; starts = starts; firsts = firsts; stamps = stamps; findings = findings; parts = parts; table = table; turned = turned }
+-- the tables that all arrays hold
+abbrev pub tables_in : Arrays → Scalars → Tables
+tables_in a s = held_tables a.points.flat a.rings.entries a.rings.starts a.rings.firsts s
 
 -- the building that they hold after a load
 unfoldable pub held_building : Arrays → Scalars → Building
 held_building a s =
     record {
-      tables = held_tables a.points a.entries a.starts a.firsts s;
+      tables = held_tables a.points.flat a.rings.entries a.rings.starts a.rings.firsts s;
       last = s.last;
       stamps = take s.polygons a.stamps;
     }
@@ -98,16 +87,31 @@ pub record Kept (points : List ℤ) (entries starts firsts findings : List ℕ) 
   pub shaped : Broken entries starts firsts s.polygons ⊎ Edged (polygons entries starts firsts s.polygons) table s.edges turned s.fixed
   pub shown : Shown table s.edges turned s.fixed s.shape
 
+-- what a load fills is within its bounds
+abbrev pub LoadedIn : Arrays → Scalars → Type 0
+LoadedIn a s = Loaded a.points.flat a.rings.entries a.rings.starts a.rings.firsts s
+
+-- and what is kept of a held building is what the definitions give
+abbrev pub KeptIn : Arrays → Scalars → Type 0
+KeptIn a s = Kept a.points.flat a.rings.entries a.rings.starts a.rings.firsts a.findings a.parts a.table a.turned s
+
 -- a held building
 pub record Held (a : Arrays) (s : Scalars) : Type 0 where
-  pub loaded : Loaded a.points a.entries a.starts a.firsts s
+  pub loaded : LoadedIn a s
   pub stamped : length a.stamps ≡ 256
-  pub kept : Kept a.points a.entries a.starts a.firsts a.findings a.parts a.table a.turned s
+  pub kept : KeptIn a s
 
 -- what is held after it is the building b
 pub record Did (b : Building) (a : Arrays) (s : Scalars) : Type 0 where
   pub held : Held a s
   pub is : held_building a s ≡ b
+
+-- the arrays later, where looking at polygons anew left the points, the rings, the edge table and the flags as they were
+pub record Beside (a a' : Arrays) : Type 0 where
+  pub points : a'.points.flat ≡ a.points.flat
+  pub rings : a'.rings ≡ a.rings
+  pub table : a'.table ≡ a.table
+  pub turned : a'.turned ≡ a.turned
 
 -- the scalars after a correction: its number is the last
 abbrev pub corrected : Scalars → ℕ → Shape → Scalars

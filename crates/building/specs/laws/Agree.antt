@@ -12,6 +12,10 @@ close_ring_agrees starts n end s₁ s₂ = agree
 pub close_polygon_agrees : (firsts : List ℕ) (n end : ℕ) (s₁ s₂ : List ℕ) → s₁ ≡ set firsts (n + 1) end → s₂ ≡ set firsts (n + 1) end → s₁ ≡ s₂
 close_polygon_agrees firsts n end s₁ s₂ = agree
 
+-- of the starts of the rings and of the polygons' first rings alike
+pub close_agrees : (starts : List ℕ) (n end : ℕ) (s₁ s₂ : List ℕ) → s₁ ≡ set starts (n + 1) end → s₂ ≡ set starts (n + 1) end → s₁ ≡ s₂
+close_agrees starts n end s₁ s₂ = agree
+
 pub finding_number_agrees : (f : Finding) (r₁ r₂ : ℕ) → r₁ ≡ finding_number_of f → r₂ ≡ finding_number_of f → r₁ ≡ r₂
 finding_number_agrees f r₁ r₂ = agree
 

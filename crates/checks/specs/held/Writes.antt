@@ -2,8 +2,9 @@
 use Rattle.std.specs.Prelude.{ℕ, ◌≡◌, List, leb, ℤ}
 use Rattle.shell.specs.declared.Shape.{Shape}
 use Rattle.shell.specs.held.Kept.{Built}
+use Rattle.building.specs.declared.Arrays.{Arrays}
 use Rattle.building.specs.declared.Scalars.{Scalars}
-use Rattle.building.specs.held.Holds.{Arrays, Shown}
+use Rattle.building.specs.held.Holds.{Shown}
 use Rattle.whole.specs.held.Stored.{zeroed}
 use Rattle.checks.specs.held.Steps.{Checked}
 use Rattle.checks.specs.held.Early.{EarlyAt}
@@ -18,9 +19,9 @@ module _ (a : Arrays) (s : Scalars) where
   pub record LoadWrites (stamps' findings' : List ℕ) (parts' : List ℤ) (table' turned' : List ℕ) (r : Scalars) : Type 0 where
     pub stamps : stamps' ≡ zeroed a.stamps 256
     pub turned : turned' ≡ zeroed a.turned 256
-    pub each : Checked s.tolerance a.points a.entries a.starts a.firsts s.polygons a.findings a.parts findings' parts'
+    pub each : Checked s.tolerance a.points.flat a.rings.entries a.rings.starts a.rings.firsts s.polygons a.findings a.parts findings' parts'
     pub low : ℕ
     pub early : EarlyAt findings' s.polygons low
-    pub table : Built a.entries a.starts a.firsts s.polygons a.table table' r.edges (leb s.polygons low) r.fixed
+    pub table : Built a.rings.entries a.rings.starts a.rings.firsts s.polygons a.table table' r.edges (leb s.polygons low) r.fixed
     pub scalars : r ≡ checked s r.edges r.fixed r.shape
     pub shown : Shown table' r.edges turned' r.fixed r.shape

@@ -5,9 +5,9 @@ use Rattle.std.proofs.Common.{arith, sym, ◌∙◌, subst, true≢false, ltb-tr
 use Rattle.whole.specs.laws.Agree.{agree}
 use Rattle.shell.specs.held.Kept.{Built}
 use Rattle.shell.specs.laws.Agree.{built_agree}
+use Rattle.building.specs.declared.Arrays.{Arrays}
 use Rattle.building.specs.declared.Scalars.{Scalars}
 use Rattle.whole.specs.laws.Stores.{cases}
-use Rattle.building.specs.held.Holds.{Arrays}
 use Rattle.checks.specs.held.Early.{EarlyAt}
 use Rattle.building.specs.laws.Agree.{shown_agrees}
 use Rattle.checks.specs.held.Writes.{checked, LoadWrites}
@@ -30,8 +30,8 @@ module _ (a : Arrays) (s : Scalars) where
   load_agrees {findings' = findings'} {findings'' = findings''} {table' = table'} {table'' = table''} {r = r} {r' = r'} w w' =
       let e : findings' ≡ findings'' = agree w.each.found w'.each.found in
       let l : w.low ≡ w'.low = low_agrees (subst (λ (f : List ℕ). EarlyAt f s.polygons w.low) e w.early) w'.early in
-      let t = built_agree a.entries a.starts a.firsts s.polygons a.table table' table'' r.edges r'.edges (leb s.polygons w.low) r.fixed r'.fixed w.table
-      (subst (λ (i : ℕ). Built a.entries a.starts a.firsts s.polygons a.table table'' r'.edges (leb s.polygons i) r'.fixed) (sym l) w'.table) in
+      let t = built_agree a.rings.entries a.rings.starts a.rings.firsts s.polygons a.table table' table'' r.edges r'.edges (leb s.polygons w.low) r.fixed r'.fixed w.table
+      (subst (λ (i : ℕ). Built a.rings.entries a.rings.starts a.rings.firsts s.polygons a.table table'' r'.edges (leb s.polygons i) r'.fixed) (sym l) w'.table) in
       let u = agree w.turned w'.turned in
       let h = shown_agrees t.0 t.1 u t.2 w.shown w'.shown in
       (agree w.stamps w'.stamps, e, agree w.each.summed w'.each.summed, (t.0, w.scalars ∙ (λ j. checked s (t.1 j) (t.2 j) (h j)) ∙ sym w'.scalars), u)

@@ -1,7 +1,7 @@
 -- End of load: what is kept is what the definitions give for the loaded tables.
-use Rattle.std.specs.Prelude.{ℕ, zero, suc, ◌+◌, ◌-◌, ◌%◌, ◌≤◌, ◌<◌, ◌≡◌, refl, Bool, true, false, ◌&&◌, List, ◌++◌, map, ◌⊎◌, ltb, leb, length, get_or, take, drop, ℤ, pos}
-use Rattle.std.proofs.Common.{arith, sym, ap, ap₂, ◌∙◌, subst, true≢false, inl, inr, ltb-true, ltb-false, leb-true, le-leb, length-append, length-drop}
-use Rattle.std.proofs.lemmas.Bool.{false≢true}
+use Rattle.std.specs.Prelude.{Option, Some, None, MatchOption, is_some, not, ltb, ℕ, zero, suc, ◌+◌, ◌-◌, ◌%◌, ◌≤◌, ◌<◌, ◌≡◌, refl, Bool, true, false, ◌&&◌, List, ◌++◌, map, ◌⊎◌, leb, length, get_or, take, drop, ℤ, pos}
+use Rattle.std.proofs.Common.{ltb-true, ltb-false, le_refl, arith, sym, ap, ap₂, ◌∙◌, subst, true≢false, inl, inr, leb-true, le-leb, length-append, length-drop}
+use Rattle.std.proofs.lemmas.Bool.{false≢true, lt-leb}
 use Rattle.whole.specs.laws.Bools.{none_of}
 use Rattle.whole.specs.laws.Stores.{cases, upto_done, length-upto}
 use Rattle.whole.specs.held.Stored.{zeroed}
@@ -18,10 +18,11 @@ use Rattle.edges.specs.Order.{ascending}
 use Rattle.edges.specs.laws.Ascending.{length-ascending}
 use Rattle.shell.specs.held.Kept as S
 use Rattle.shell.specs.laws.EdgedLaws.{listed-built, edged_built}
+use Rattle.building.specs.declared.Arrays.{Arrays}
 use Rattle.building.specs.declared.Scalars.{Scalars}
 use Rattle.building.specs.Tables.{loaded}
 use Rattle.building.specs.laws.Lists.{tab_ext, take_is_tab, map-tab}
-use Rattle.building.specs.held.Holds.{is_broken, Arrays, arrays, held_tables, held_building, Loaded, Sizes, Found, Summed, Broken, Shown, Did}
+use Rattle.building.specs.held.Holds.{is_broken, tables_in, LoadedIn, held_tables, held_building, Loaded, Sizes, Found, Summed, Broken, Shown, Did}
 use Rattle.building.specs.laws.Findings.{Early, one_broken, broken_one, kept_number}
 use Rattle.building.specs.laws.Rings.{one_each, rings-many}
 use Rattle.building.specs.laws.Sound.{sound_of}
@@ -44,6 +45,7 @@ early_yes k e = go (leb 1 n) refl (leb n 3) refl e
 early_no : (k : ℕ) → is_early_of k ≡ false → Early (k % 16) → ⊥
 early_no k e y = true≢false (sym (ap₂ (λ (a b : Bool). a && b) (le-leb 1 (k % 16) y.least) (le-leb (k % 16) 3 y.most)) ∙ e)
 
+-- ---- the search by index
 module _ (l : List ℕ) (n : ℕ) where
   pub early-none : NoneEarly l n 0
   early-none = record { passed = omega arith; before = λ p h. absurd (never p h) }
@@ -68,6 +70,18 @@ module _ (l : List ℕ) (n : ℕ) where
     where
       clash : (i n : ℕ) → i < n → n ≤ i → ⊥
       clash i n g h = omega arith
+
+-- ---- the search for it: whether it found none, and where the lowest is
+pub record Low (l : List ℕ) (n : ℕ) (sound : Bool) : Type 0 where
+  pub low : ℕ
+  pub early : EarlyAt l n low
+  pub sound_is : leb n low ≡ sound
+
+pub low_of : {l : List ℕ} {n : ℕ} (r : Option ℕ) {sound : Bool} → MatchOption r (NoneEarly l n n) (λ i. (i < n) × EarlyAt l n i) → is_some r ≡ not sound → Low l n sound
+low_of {l} {n} None {sound = true} e s = record { low = n; early = early_done l n n e (le_refl n); sound_is = le-leb n n (le_refl n) }
+low_of None {sound = false} e s = absurd (false≢true s)
+low_of (Some i) {sound = true} e s = absurd (true≢false s)
+low_of {n = n} (Some i) {sound = false} e s = record { low = i; early = e.1; sound_is = lt-leb n i e.0 }
 
 -- ---- a ring that fails none of them is one that the shell's table takes
 whole_sound : (ring : List ℕ) → is_broken ring ≡ false → S.Sound ring
@@ -153,52 +167,51 @@ stamps_none entries starts firsts n stamps h few =
     ∙ tab_ext (λ p. get_or (zeroed stamps 256) p 0) (λ p. 0) n (λ p g. zeroed-all stamps h p)
     ∙ sym (map-tab (λ (p : Polygon). 0) (polygon_at entries starts firsts) n)
 
-module _ (a : Arrays) (s : Scalars) (ld : Loaded a.points a.entries a.starts a.firsts s) (sz : Sizes a) where
-  pub did_loaded : {findings' : List ℕ} {parts' : List ℤ} {stamps' turned' table' : List ℕ}
-      → Checked s.tolerance a.points a.entries a.starts a.firsts s.polygons a.findings a.parts findings' parts'
-      → stamps' ≡ zeroed a.stamps 256
-      → turned' ≡ zeroed a.turned 256
-      → length table' ≡ 1024
+module _ (a a' : Arrays) (s : Scalars) (ld : LoadedIn a s) (sz : Sizes a) where
+  pub did_loaded : a'.points.flat ≡ a.points.flat
+      → a'.rings ≡ a.rings
+      → Checked s.tolerance a.points.flat a.rings.entries a.rings.starts a.rings.firsts s.polygons a.findings a.parts a'.findings a'.parts
+      → a'.stamps ≡ zeroed a.stamps 256
+      → a'.turned ≡ zeroed a.turned 256
+      → length a'.table ≡ 1024
       → (edges : ℕ) (fixed shape : Shape)
-      → S.Listed (polygons a.entries a.starts a.firsts s.polygons) table' edges turned'
-      → Broken a.entries a.starts a.firsts s.polygons ⊎ S.Edged (polygons a.entries a.starts a.firsts s.polygons) table' edges turned' fixed
-      → Shown table' edges turned' fixed shape
+      → S.Listed (polygons a.rings.entries a.rings.starts a.rings.firsts s.polygons) a'.table edges a'.turned
+      → Broken a.rings.entries a.rings.starts a.rings.firsts s.polygons ⊎ S.Edged (polygons a.rings.entries a.rings.starts a.rings.firsts s.polygons) a'.table edges a'.turned fixed
+      → Shown a'.table edges a'.turned fixed shape
       → {r : Scalars} → r ≡ record { tolerance = s.tolerance; points = s.points; polygons = s.polygons; last = 0; edges = edges; fixed = fixed; shape = shape }
-      → Did (loaded (held_tables a.points a.entries a.starts a.firsts s)) (arrays a.points a.entries a.starts a.firsts stamps' findings' parts' table' turned') r
+      → Did (loaded (tables_in a s)) a' r
   unfolding held_building held_tables loaded
-  did_loaded {table' = table'} ch e f w edges fixed shape li sh now g =
+  did_loaded pt rg ch e f w edges fixed shape li sh now g =
       let fo = checked_found ld sz.findings sz.parts ch in
       let su = checked_summed ld sz.findings sz.parts ch in
-      let li' : S.Listed (polygons a.entries a.starts a.firsts s.polygons) table' edges (zeroed a.turned 256) = rw f at li in
-      let sh' : Broken a.entries a.starts a.firsts s.polygons ⊎ S.Edged (polygons a.entries a.starts a.firsts s.polygons) table' edges (zeroed a.turned 256) fixed = rw f at sh in
-      let now' : Shown table' edges (zeroed a.turned 256) fixed shape = rw f at now in
-      rw (e, f, g)
+      rw g
       (record {
         held = record {
-          loaded = record { coords = ld.coords; first = ld.first; layout = ld.layout; ones = ld.ones; entered = ld.entered; tolerant = ld.tolerant; short = ld.short };
-          stamped = length-upto (λ p old. 0) 0 a.stamps 256 ∙ sz.stamps;
+          loaded = rw (pt, rg) (record { coords = ld.coords; first = ld.first; layout = ld.layout; ones = ld.ones; entered = ld.entered; tolerant = ld.tolerant; short = ld.short });
+          stamped = ap length e ∙ length-upto (λ p old. 0) 0 a.stamps 256 ∙ sz.stamps;
           kept = record {
-            found = record { size = fo.size; each = fo.each };
-            summed = record { size = su.size; each = su.each };
+            found = rw (pt, rg) (record { size = fo.size; each = fo.each });
+            summed = rw (pt, rg) (record { size = su.size; each = su.each });
             table-size = w;
-            turned-size = length-upto (λ p old. 0) 0 a.turned 256 ∙ sz.turned;
-            listed = li';
-            shaped = sh';
-            shown = now';
+            turned-size = ap length f ∙ length-upto (λ p old. 0) 0 a.turned 256 ∙ sz.turned;
+            listed = rw rg li;
+            shaped = rw rg sh;
+            shown = now;
           };
         };
-        is = rw (stamps_none a.entries a.starts a.firsts s.polygons a.stamps sz.stamps ld.layout.few);
+        is = rw (pt, rg, e, stamps_none a.rings.entries a.rings.starts a.rings.firsts s.polygons a.stamps sz.stamps ld.layout.few);
       })
 
+module _ (a : Arrays) (s : Scalars) (ld : LoadedIn a s) (sz : Sizes a) where
   -- the table that was built belongs to the rings, and the verdict too where none is broken
-  module _ (room table' turned' : List ℕ) (count : ℕ) (sound : Bool) (fixed : Shape) (b : S.Built a.entries a.starts a.firsts s.polygons room table' count sound fixed) (e : turned' ≡ zeroed a.turned 256) where
+  module _ (room table' turned' : List ℕ) (count : ℕ) (sound : Bool) (fixed : Shape) (b : S.Built a.rings.entries a.rings.starts a.rings.firsts s.polygons room table' count sound fixed) (e : turned' ≡ zeroed a.turned 256) where
     none-turned : (p : ℕ) → get_or turned' p 0 ≡ 0
     none-turned p = ap (λ (k : List ℕ). get_or k p 0) e ∙ zeroed-all a.turned sz.turned p
 
-    pub built-listed : S.Listed (polygons a.entries a.starts a.firsts s.polygons) table' count turned'
-    built-listed = listed-built a.entries a.starts a.firsts s.polygons room table' count turned' sound fixed b none-turned ld.layout
+    pub built-listed : S.Listed (polygons a.rings.entries a.rings.starts a.rings.firsts s.polygons) table' count turned'
+    built-listed = listed-built a.rings.entries a.rings.starts a.rings.firsts s.polygons room table' count turned' sound fixed b none-turned ld.layout
 
-    pub built-shaped : (sound ≡ true → S.Loaded a.entries a.starts a.firsts s.polygons) → (sound ≡ false → Broken a.entries a.starts a.firsts s.polygons)
-        → Broken a.entries a.starts a.firsts s.polygons ⊎ S.Edged (polygons a.entries a.starts a.firsts s.polygons) table' count turned' fixed
+    pub built-shaped : (sound ≡ true → S.Loaded a.rings.entries a.rings.starts a.rings.firsts s.polygons) → (sound ≡ false → Broken a.rings.entries a.rings.starts a.rings.firsts s.polygons)
+        → Broken a.rings.entries a.rings.starts a.rings.firsts s.polygons ⊎ S.Edged (polygons a.rings.entries a.rings.starts a.rings.firsts s.polygons) table' count turned' fixed
     built-shaped whole broken =
-        cases sound (λ t. inr (edged_built a.entries a.starts a.firsts s.polygons room table' count turned' sound fixed b none-turned t (whole t))) (λ t. inl (broken t))
+        cases sound (λ t. inr (edged_built a.rings.entries a.rings.starts a.rings.firsts s.polygons room table' count turned' sound fixed b none-turned t (whole t))) (λ t. inl (broken t))

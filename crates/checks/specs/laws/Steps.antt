@@ -1,8 +1,10 @@
 -- The polygons checked one by one, and arrays set to 0.
-use Rattle.std.specs.Prelude.{ℕ, ◌+◌, ◌≡◌, List, ltb, length, get_or, set, ℤ, pos}
-use Rattle.std.proofs.Common.{arith, ap, ◌∙◌, ltb-true, ltb-false}
+use Rattle.std.specs.Prelude.{ℕ, ◌+◌, ◌≡◌, List, ltb, length, get_or, set, replicate, ℤ, pos}
+use Rattle.std.proofs.Common.{arith, sym, ap, ◌∙◌, ltb-true, ltb-false, ext_get_or}
 use Rattle.std.proofs.Math.Path.{refl}
 use Rattle.std.proofs.Math.ListN.{get_or-eq_default}
+use Rattle.std.proofs.lemmas.List.{length-replicate}
+use Rattle.whole.specs.laws.Places.{all_alike}
 use Rattle.whole.specs.laws.Stores.{cases, length-upto, upto_more, upto_done, upto_rest}
 use Rattle.whole.specs.held.Stored.{upto, zeroed}
 use Rattle.renew.specs.held.Renewed.{kept_at, part_at, Refreshed}
@@ -15,6 +17,12 @@ module _ (l : List ℕ) where
       cases (ltb p 256)
       (λ t. upto_done (λ p old. 0) 0 l 256 p (ltb-true p 256 t) (omega arith))
       (λ t. upto_rest (λ p old. 0) 0 l 256 p (ltb-false p 256 t) ∙ get_or-eq_default l 0 (omega (arith, ltb-false p 256 t)))
+
+  -- so they stand after a fill
+  pub zeroed-fill : length l ≡ 256 → replicate (length l) 0 ≡ zeroed l 256
+  zeroed-fill h =
+      ext_get_or 0 (replicate (length l) 0) (zeroed l 256) (length-replicate (length l) 0 ∙ sym (length-upto (λ p old. 0) 0 l 256))
+      (λ p g. all_alike 0 (length l) p ∙ sym (zeroed-all h p))
 
 -- ---- the first m are checked
 module _ (tolerance : ℕ) (points : List ℤ) (entries starts firsts : List ℕ) where

@@ -2,8 +2,15 @@
 use Rattle.std.specs.Prelude.{ℕ, ◌≡◌, List, ℤ}
 use Rattle.whole.specs.Lists.{tab}
 use Rattle.whole.specs.laws.Agree.{agree}
-use Rattle.plane.specs.held.Edges.{edge_at}
+use Rattle.plane.specs.declared.Edge.{Edge}
+use Rattle.plane.specs.held.Edges.{as_segment, edge_at}
+use Rattle.neighbours.specs.laws.Agree.{edge_at_agrees}
+use Rattle.crossing.specs.declared.Columns.{Columns}
 use Rattle.crossing.specs.Crossed.{crossed_at}
+use Rattle.crossing.specs.held.Between.{segment}
+
+pub edge_agrees : (c : Columns) (i : ℕ) (r₁ r₂ : Edge) → as_segment r₁ ≡ segment c i → as_segment r₂ ≡ segment c i → r₁ ≡ r₂
+edge_agrees c i r₁ r₂ h k = edge_at_agrees c.us.now c.vs.now i r₁ r₂ h k
 
 pub first_crossed_agrees : (us vs : List ℤ) (m : ℕ) (r₁ r₂ : ℕ) → r₁ ≡ crossed_at (tab (edge_at us vs) m) → r₂ ≡ crossed_at (tab (edge_at us vs) m) → r₁ ≡ r₂
 first_crossed_agrees us vs m r₁ r₂ = agree

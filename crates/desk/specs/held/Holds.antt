@@ -5,7 +5,8 @@ use Rattle.lines.specs.Lines.{ended}
 use Rattle.frame.specs.Frame.{Frame}
 use Rattle.taken.specs.held.Chains.{Chained}
 use Rattle.building.specs.Tables.{Tables, Building}
-use Rattle.building.specs.held.Holds.{Arrays, held_tables, held_building, Loaded, Sizes, Kept}
+use Rattle.building.specs.declared.Arrays.{Arrays}
+use Rattle.building.specs.held.Holds.{tables_in, held_building, LoadedIn, Sizes, KeptIn}
 use Rattle.service.specs.Service.{State, nothing, loading, holding, Outcome, outcome, refusal}
 use Rattle.modes.specs.declared.Mode.{Mode}
 use Rattle.modes.specs.declared.Mode.TheVariants.{Nothing, Loading, Holding}
@@ -19,16 +20,16 @@ state_of Holding t b = holding b
 
 -- the state that the arrays and the scalars hold
 unfoldable pub service : Arrays → Desk → State
-service a d = state_of d.mode (held_tables a.points a.entries a.starts a.firsts d.held) (held_building a d.held)
+service a d = state_of d.mode (tables_in a d.held) (held_building a d.held)
 
 -- what always holds of them; findings, parts and edges are kept while a building is held, and while a load runs the edges' room holds the
 -- points by their places, of which there are none before the first load
 pub record Valid (a : Arrays) (d : Desk) : Type 0 where
-  pub loaded : Loaded a.points a.entries a.starts a.firsts d.held
+  pub loaded : LoadedIn a d.held
   pub sizes : Sizes a
-  pub kept : d.mode ≡ Holding → Kept a.points a.entries a.starts a.firsts a.findings a.parts a.table a.turned d.held
-  pub chained : d.mode ≡ Loading → Chained a.points a.table d.held.points
-  pub fresh : d.mode ≡ Nothing → Chained a.points a.table 0
+  pub kept : d.mode ≡ Holding → KeptIn a d.held
+  pub chained : d.mode ≡ Loading → Chained a.points.flat a.table d.held.points
+  pub fresh : d.mode ≡ Nothing → Chained a.points.flat a.table 0
 
 -- what comes back after an outcome, answered at a place of the room
 pub record Did (o : Outcome) (room : List ℕ) (at : ℕ) (a : Arrays) (room' : List ℕ) (d : Desk) : Type 0 where

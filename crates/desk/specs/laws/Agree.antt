@@ -1,8 +1,9 @@
 -- For each public function: any two results that its statement allows are one. Of what is held, that is what the arrays and the scalars stand
 -- for; words of the arrays past the counts may differ.
 use Rattle.std.specs.Prelude.{ℕ, ◌≡◌, Bool, List}
+use Rattle.std.proofs.Math.Option.{Option}
 use Rattle.whole.specs.laws.Agree.{agree}
-use Rattle.building.specs.held.Holds.{Arrays}
+use Rattle.building.specs.declared.Arrays.{Arrays}
 use Rattle.service.specs.declared.Refusal.{Refusal}
 use Rattle.service.specs.Service.{Outcome, refused, is_accepted_of}
 use Rattle.desk.specs.declared.Desk.{Desk}
@@ -17,7 +18,7 @@ pub did_agree : {o : Outcome} {room room₁ room₂ : List ℕ} {at : ℕ} {a₁
     → (room₁ ≡ room₂) × (d₁.at ≡ d₂.at) × (service a₁ d₁ ≡ service a₂ d₂)
 did_agree p q = (agree p.wrote q.wrote, agree p.past q.past, agree p.next q.next)
 
-pub is_accepted_agrees : (r : Refusal) (b₁ b₂ : Bool) → b₁ ≡ is_accepted_of r → b₂ ≡ is_accepted_of r → b₁ ≡ b₂
+pub is_accepted_agrees : (r : Option Refusal) (b₁ b₂ : Bool) → b₁ ≡ is_accepted_of r → b₂ ≡ is_accepted_of r → b₁ ≡ b₂
 is_accepted_agrees r b₁ b₂ = agree
 
 pub refuse_agrees : (r : Refusal) (a : Arrays) (d : Desk) (room room₁ room₂ : List ℕ) (d₁ d₂ : Desk) → Did (refused r (service a d)) room d.at a room₁ d₁

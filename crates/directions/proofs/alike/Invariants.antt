@@ -1,12 +1,8 @@
--- `directions::alike` meets its contract.
-use Prim.Native.Nat.{◌≤◌, ◌-◌}
+-- `directions::alike` meets its contract: what the words that are left tell, all told.
 use mathlib.Core.Path.{◌≡◌}
-use lib.ListN.{length, drop}
+use Rattle.std.specs.Slice.Iter.{chunks_exact_size, chunks_exact_rest}
 use Rattle.shell.specs.held.Kept.{alike_in}
 use Rattle.directions.proofs.alike.Given as goal
 
-abbrev pub invariant-loop-i : goal.invariant-loop-i
-invariant-loop-i l = (l.i ≤ length l.words) × (alike_in l.turned (drop l.i l.words) ≡ alike_in l.turned l.words)
-
-abbrev pub decreases-loop-i : goal.decreases-loop-i
-decreases-loop-i l = length l.words - l.i
+abbrev pub invariant-loop-pair : goal.invariant-loop-pair
+invariant-loop-pair l = (chunks_exact_size l.pair-iterator ≡ 2) × (alike_in l.turned (chunks_exact_rest l.pair-iterator) ≡ alike_in l.turned l.words)

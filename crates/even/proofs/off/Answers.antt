@@ -9,7 +9,7 @@ use Rattle.space.specs.Space.{Point, dot}
 use Rattle.even.proofs.off.Goals as goal
 
 pub dot-requires : goal.dot-requires
-dot-requires c = (c.requires.near, near_same c.toward.ensures (near-way (near-place c.requires.coords _) (near-place c.requires.coords _)))
+dot-requires c = (c.requires.near, near_same c.toward.ensures (near-way (near-place c.args.points.now.coords _) (near-place c.args.points.now.coords _)))
 
 pub returns : goal.returns
 returns c = c.size.ensures ∙ ap nat_abs (call_is w64 c.dot.type_inv (c.dot.ensures ∙ ap (λ (p : Point). dot (as_point c.args.n) p) c.toward.ensures))

@@ -1,10 +1,7 @@
--- `extents::furthest` meets its contract. The loop: the number is beyond the first n.
-use Prim.Native.Nat.{◌+◌, ◌-◌, ◌≤◌}
+-- `extents::furthest` meets its contract. The loop: the number is beyond the first ones.
+use Rattle.std.proofs.Common.{not, nat_eq, ◌+◌}
 use Rattle.extents.specs.held.Extents.{Ahead}
 use Rattle.extents.proofs.furthest.Given as goal
 
-abbrev pub invariant-loop-n : goal.invariant-loop-n
-invariant-loop-n l = (l.n ≤ 8) × Ahead l.room l.high l.j (l.j + l.n) l.x
-
-abbrev pub decreases-loop-n : goal.decreases-loop-n
-decreases-loop-n l = 8 - l.n
+abbrev pub invariant-loop-x : goal.invariant-loop-x
+invariant-loop-x g l = Ahead l.room (not (nat_eq g.row.HIGH 0)) l.j (l.j + l.x-index) l.end

@@ -1,6 +1,7 @@
 -- The ends of boxes as code holds them: on one axis, the least and the largest step of each edge, and of each block of eight edges.
 use Rattle.std.specs.Prelude.{ℕ, ◌+◌, ◌/◌, ◌<◌, ◌≤◌, min, max, ◌≡◌, Bool, true, false, cond, List, get_or, length, ℤ, pos, nat_abs, ◌+ℤ◌}
 use Rattle.whole.specs.held.Small.{Small}
+use Rattle.extents.specs.declared.Extents.{Extents}
 
 -- the step that a coordinate is on, four to a step, counted from the least coordinate
 abbrev pub step : ℤ → ℕ
@@ -41,15 +42,15 @@ pub record Blocks (m : ℕ) (high : Bool) (old room : List ℕ) : Type 0 where
   pub each : (k : ℕ) → k < m → Beyond high (get_or room (144 + k / 8) 0) (get_or room k 0)
 
 -- on one axis, the box of each block covers the boxes of its edges
-pub record Covered (m : ℕ) (ls hs : List ℕ) : Type 0 where
-  pub low-all : length ls ≡ 176
-  pub high-all : length hs ≡ 176
-  pub low : (k : ℕ) → k < m → get_or ls (144 + k / 8) 0 ≤ get_or ls k 0
-  pub high : (k : ℕ) → k < m → get_or hs k 0 ≤ get_or hs (144 + k / 8) 0
+pub record Covered (m : ℕ) (x : Extents) : Type 0 where
+  pub low-all : length x.lows ≡ 176
+  pub high-all : length x.highs ≡ 176
+  pub low : (k : ℕ) → k < m → get_or x.lows (144 + k / 8) 0 ≤ get_or x.lows k 0
+  pub high : (k : ℕ) → k < m → get_or x.highs k 0 ≤ get_or x.highs (144 + k / 8) 0
 
 -- on one axis, the least and the largest step of each of m edges, and of each block
-pub record Sides (us : List ℤ) (m : ℕ) (ls hs : List ℕ) : Type 0 where
+pub record Sides (us : List ℤ) (m : ℕ) (x : Extents) : Type 0 where
   pub line : Line us m
-  pub blocks : Covered m ls hs
-  pub low : (k : ℕ) → k < m → get_or ls k 0 ≡ ending false (step (get_or us k (pos 0))) (step (get_or us (k + 1) (pos 0)))
-  pub high : (k : ℕ) → k < m → get_or hs k 0 ≡ ending true (step (get_or us k (pos 0))) (step (get_or us (k + 1) (pos 0)))
+  pub blocks : Covered m x
+  pub low : (k : ℕ) → k < m → get_or x.lows k 0 ≡ ending false (step (get_or us k (pos 0))) (step (get_or us (k + 1) (pos 0)))
+  pub high : (k : ℕ) → k < m → get_or x.highs k 0 ≡ ending true (step (get_or us k (pos 0))) (step (get_or us (k + 1) (pos 0)))

@@ -3,4 +3,4 @@ use Rattle.hexadecimal.specs.laws.Digits.{digit_is}
 use Rattle.fields.proofs.digit_value.Goals as goal
 
 pub returns : goal.returns
-returns c = digit_is c.args.b c.requires
+returns c = rw c.from.ensures (digit_is c.args.b c.requires)

@@ -1,6 +1,5 @@
 -- What is left to show of `each_digit`.
 use native.Mathlib.Omega.{arith}
-use mathlib.Core.Path.{◌≡◌}
 use borrow.Author.Rules.{rules}
 use Rattle.hexadecimal.specs.Hex.{number, number_from}
 use Rattle.hexadecimal.specs.laws.Digits.{number-turn, number_more, number_fits, all_hex-at}
@@ -11,22 +10,18 @@ unfolding number number_from
 loop-i-init c = search rules
 
 pub overflow_mul-v : goal.overflow_mul-v
-overflow_mul-v c = omega (arith, number_fits c.loop-i.i c.loop-i.v (omega arith) c.loop-i.invariant.1.1)
+overflow_mul-v c = omega (arith, number_fits c.loop-i.i c.loop-i.v (omega arith) c.loop-i.invariant.1)
 
 pub digit_value-requires : goal.digit_value-requires
 digit_value-requires c = all_hex-at _ _ c.requires.hex (omega arith)
 
 pub overflow_add-v : goal.overflow_add-v
 overflow_add-v c = let l = c.loop-i in
-    omega (arith, number_fits l.i l.v (omega arith) l.invariant.1.1)
+    omega (arith, number_fits l.i l.v (omega arith) l.invariant.1)
 
 pub loop-i-preserved : goal.loop-i-preserved
 loop-i-preserved c = let l = c.loop-i in
     let a = c.args in
     let p = c.requires in
     let e = number-turn a.line.now a.at l.i (omega arith) in
-    (omega arith, (rw (e, ← l.invariant.1.0, c.digit_value.ensures.0), number_more l.i l.v c.digit_value.result l.invariant.1.1 c.digit_value.ensures.1))
-
-pub returns : goal.returns
-returns c = let e : c.loop-i.i ≡ c.args.k = omega arith in
-    rw e at c.loop-i.invariant.1
+    (rw (e, ← l.invariant.0, c.digit_value.ensures.0), number_more l.i l.v c.digit_value.result l.invariant.1 c.digit_value.ensures.1)

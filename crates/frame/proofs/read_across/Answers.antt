@@ -5,10 +5,10 @@ use Rattle.frame.specs.held.Meaning.{meaning}
 use Rattle.frame.specs.laws.Decoded.{shaped_broken, across_is}
 use Rattle.frame.proofs.read_across.Goals as goal
 
-pub returns-then-line-eq10 : goal.returns-then-line-eq10
-unfolding meaning
-returns-then-line-eq10 c = across_is _ c.if-line-eq10.true c.unsigned.ensures.0 c.unsigned-then-line-eq10.ensures.0
+pub returns-then-line-ne10 : goal.returns-then-line-ne10
+unfolding meaning fits
+returns-then-line-ne10 c = shaped_broken Kind.across _ (ne_eqb _ 10 c.if-line-ne10.true)
 
 pub returns : goal.returns
-unfolding meaning fits
-returns c = shaped_broken Kind.across _ (ne_eqb _ 10 c.if-line-eq10.false)
+unfolding meaning
+returns c = across_is _ c.if-line-ne10.false c.unsigned.ensures.0 c.unsigned-2.ensures.0

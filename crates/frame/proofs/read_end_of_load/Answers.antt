@@ -5,10 +5,10 @@ use Rattle.frame.specs.held.Meaning.{meaning}
 use Rattle.frame.specs.laws.Decoded.{shaped_broken, end_is}
 use Rattle.frame.proofs.read_end_of_load.Goals as goal
 
-pub returns-then-line-eq2 : goal.returns-then-line-eq2
-unfolding meaning
-returns-then-line-eq2 c = end_is _ c.if-line-eq2.true
+pub returns-then-line-ne2 : goal.returns-then-line-ne2
+unfolding meaning fits
+returns-then-line-ne2 c = shaped_broken Kind.end_of_load _ (ne_eqb _ 2 c.if-line-ne2.true)
 
 pub returns : goal.returns
-unfolding meaning fits
-returns c = shaped_broken Kind.end_of_load _ (ne_eqb _ 2 c.if-line-eq2.false)
+unfolding meaning
+returns c = end_is _ c.if-line-ne2.false

@@ -5,10 +5,10 @@ use Rattle.frame.specs.held.Meaning.{meaning}
 use Rattle.frame.specs.laws.Decoded.{shaped_broken, question_is}
 use Rattle.frame.proofs.read_question.Goals as goal
 
-pub returns-then-line-eq6 : goal.returns-then-line-eq6
-unfolding meaning
-returns-then-line-eq6 c = question_is _ c.if-line-eq6.true c.unsigned.ensures.0
+pub returns-then-line-ne6 : goal.returns-then-line-ne6
+unfolding meaning fits
+returns-then-line-ne6 c = shaped_broken Kind.question _ (ne_eqb _ 6 c.if-line-ne6.true)
 
 pub returns : goal.returns
-unfolding meaning fits
-returns c = shaped_broken Kind.question _ (ne_eqb _ 6 c.if-line-eq6.false)
+unfolding meaning
+returns c = question_is _ c.if-line-ne6.false c.unsigned.ensures.0

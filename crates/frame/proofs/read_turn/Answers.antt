@@ -5,10 +5,10 @@ use Rattle.frame.specs.held.Meaning.{meaning}
 use Rattle.frame.specs.laws.Decoded.{shaped_broken, turn_is}
 use Rattle.frame.proofs.read_turn.Goals as goal
 
-pub returns-then-line-eq14 : goal.returns-then-line-eq14
-unfolding meaning
-returns-then-line-eq14 c = turn_is _ c.if-line-eq14.true c.unsigned.ensures.0 c.unsigned-then-line-eq14.ensures.0
+pub returns-then-line-ne14 : goal.returns-then-line-ne14
+unfolding meaning fits
+returns-then-line-ne14 c = shaped_broken Kind.turn _ (ne_eqb _ 14 c.if-line-ne14.true)
 
 pub returns : goal.returns
-unfolding meaning fits
-returns c = shaped_broken Kind.turn _ (ne_eqb _ 14 c.if-line-eq14.false)
+unfolding meaning
+returns c = turn_is _ c.if-line-ne14.false c.unsigned.ensures.0 c.unsigned-2.ensures.0

@@ -1,5 +1,5 @@
 -- Laws of the decoder: what its answer says, kind by kind, and that the line's frame settles the answer.
-use Rattle.std.specs.Prelude.{ℕ, zero, suc, ◌+◌, ◌*◌, ◌-◌, ◌/◌, ◌%◌, ◌≤◌, ◌<◌, ◌≡◌, Bool, true, cond, ◌&&◌, ℤ, take, get_or}
+use Rattle.std.specs.Prelude.{ℕ, zero, suc, ◌+◌, ◌*◌, ◌-◌, ◌/◌, ◌%◌, ◌≤◌, ◌<◌, ◌≡◌, Bool, true, cond, ◌&&◌, ℤ, take, get_or, Option, Some, None}
 use Rattle.std.proofs.Common.{arith, ◌∙◌}
 use Rattle.std.proofs.Math.Path.{refl, sym, ap}
 use Rattle.std.proofs.Math.Bool.{false}
@@ -12,7 +12,7 @@ use Rattle.frame.specs.Frame.{Frame, begin, point, polygon, end_of_load, move, t
 use Rattle.whole.specs.laws.Bools.{and_left, and_false}
 use Rattle.frame.specs.laws.RoundTrip.{numbers_few, decode_well}
 use Rattle.frame.specs.declared.Fields.{Fields}
-use Rattle.frame.specs.declared.Fields.TheVariants.{Begin, Point, Polygon, EndOfLoad, Move, Turn, Question, Across, Broken}
+use Rattle.frame.specs.declared.Fields.TheVariants.{Begin, Point, Polygon, EndOfLoad, Move, Turn, Question, Across}
 use Rattle.frame.specs.held.Meaning.{counted, meaning, Listed, shaped}
 
 -- ---- point numbers
@@ -182,35 +182,35 @@ kind_unknown n a b c d e f g h =
 
 -- ---- the frame of a line settles the decoder's answer
 
-unfoldable pub fields_of : Frame → Fields
-fields_of (begin t) = Begin t
-fields_of (point x y z) = Point x y z
-fields_of (polygon ring) = Polygon (length ring)
-fields_of end_of_load = EndOfLoad
-fields_of (move n p x y z) = Move n p x y z
-fields_of (turn n p) = Turn n p
-fields_of (question p) = Question p
-fields_of (across a b) = Across a b
-fields_of broken = Broken
+unfoldable pub fields_of : Frame → Option Fields
+fields_of (begin t) = Some (Begin t)
+fields_of (point x y z) = Some (Point x y z)
+fields_of (polygon ring) = Some (Polygon (length ring))
+fields_of end_of_load = Some EndOfLoad
+fields_of (move n p x y z) = Some (Move n p x y z)
+fields_of (turn n p) = Some (Turn n p)
+fields_of (question p) = Some (Question p)
+fields_of (across a b) = Some (Across a b)
+fields_of broken = None
 
-fields_back : (r : Fields) (l : List ℕ) → fields_of (meaning r l) ≡ r
+fields_back : (r : Option Fields) (l : List ℕ) → fields_of (meaning r l) ≡ r
 unfolding fields_of meaning
-fields_back (Begin t) l = refl
-fields_back (Point x y z) l = refl
-fields_back (Polygon n) l = ap Polygon (length-counted n (numbers (drop 2 l)))
-fields_back EndOfLoad l = refl
-fields_back (Move n p x y z) l = refl
-fields_back (Turn n p) l = refl
-fields_back (Question p) l = refl
-fields_back (Across a b) l = refl
-fields_back Broken l = refl
+fields_back (Some (Begin t)) l = refl
+fields_back (Some (Point x y z)) l = refl
+fields_back (Some (Polygon n)) l = ap (λ (m : ℕ). Some (Polygon m)) (length-counted n (numbers (drop 2 l)))
+fields_back (Some EndOfLoad) l = refl
+fields_back (Some (Move n p x y z)) l = refl
+fields_back (Some (Turn n p)) l = refl
+fields_back (Some (Question p)) l = refl
+fields_back (Some (Across a b)) l = refl
+fields_back None l = refl
 
-pub meaning_tells : (r s : Fields) (l : List ℕ) → meaning r l ≡ meaning s l → r ≡ s
+pub meaning_tells : (r s : Option Fields) (l : List ℕ) → meaning r l ≡ meaning s l → r ≡ s
 meaning_tells r s l e = sym (fields_back r l) ∙ ap fields_of e ∙ fields_back s l
 
 -- what a caller knows of the line once it has matched the answer r as s
-pub decoded_as : (l : List ℕ) (r s : Fields) → meaning r l ≡ decode l → r ≡ s → decode l ≡ meaning s l
-decoded_as l r s e p = sym e ∙ ap (λ (x : Fields). meaning x l) p
+pub decoded_as : (l : List ℕ) (r s : Option Fields) → meaning r l ≡ decode l → r ≡ s → decode l ≡ meaning s l
+decoded_as l r s e p = sym e ∙ ap (λ (x : Option Fields). meaning x l) p
 
 -- ---- the line of a polygon frame
 
@@ -234,7 +234,7 @@ decode_ring ring l = go (all_hex_of l && fits (kind_named l) (length l)) refl
     go true d e = (and_left (all_hex_of l) (fits (kind_named l) (length l)) d, filled_ring (kind_named l) ring (drop 2 l) (rw (d, decode) at e))
     go false d e = let f : polygon ring ≡ broken = rw (d, decode) at e in let z : ◌≡◌ {A = ℕ} 0 1 = cc in absurd (omega arith)
 
-module _ (l : List ℕ) (n : ℕ) (e : meaning (Polygon n) l ≡ decode l) where
+module _ (l : List ℕ) (n : ℕ) (e : meaning (Some (Polygon n)) l ≡ decode l) where
   ring_is : (all_hex_of l ≡ true) × (counted n (numbers (drop 2 l)) ≡ numbers (drop 2 l))
   unfolding meaning
   ring_is = decode_ring (counted n (numbers (drop 2 l))) l e

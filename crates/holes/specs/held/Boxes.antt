@@ -1,14 +1,14 @@
 -- The boxes around rings that code holds, and what it tests of them.
 use Rattle.std.specs.Prelude.{ℕ, ◌<◌, ◌≡◌, Bool, true, false, cond, ◌&&◌, ◌||◌, List, get_or, ℤ, ◌≤ℤ◌}
-use Rattle.std.specs.Bool.{beq}
 use Rattle.std.specs.Int.Signed.{lt_z}
 use Rattle.whole.specs.held.Small.{Small}
 use Rattle.plane.specs.Plane.{Spot, Segment}
+use Rattle.plane.specs.held.Edges.{least, most}
 use Rattle.holes.specs.declared.bounds.Bounds.{Bounds}
 
 -- the larger of two numbers, or the smaller
 abbrev pub further : Bool → ℤ → ℤ → ℤ
-further high p q = cond (beq (lt_z p q) high) q p
+further high p q = cond high (most p q) (least p q)
 
 -- a box whose numbers are coordinates
 pub record Sized (b : Bounds) : Type 0 where

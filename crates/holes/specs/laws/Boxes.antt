@@ -4,7 +4,6 @@ use Rattle.std.proofs.Common.{arith, sym, ap₂, ◌∙◌, subst, inl, inr}
 use Rattle.std.proofs.Math.Decide.{dec_lt}
 use Rattle.std.proofs.Math.Path.{refl, ap}
 use Rattle.std.proofs.Math.Bool.{true, false, not}
-use Rattle.std.specs.Bool.{beq}
 use Rattle.std.proofs.lemmas.Bool.{false≢true}
 use Rattle.std.specs.Int.Signed.{lt_z}
 use Rattle.whole.specs.Lists.{any, steps, steps_from}
@@ -28,21 +27,26 @@ le_self : (a : ℤ) → a ≤ℤ a
 le_self = lin 1 (λ a. a ≼ a) (omega arith)
 
 below_both : (p q : ℤ) → (further false p q ≤ℤ p) × (further false p q ≤ℤ q)
-below_both p q = go (lt_z p q) refl
+below_both p q = go (lt_z q p) refl
   where
-    go : (t : Bool) → lt_z p q ≡ t → (cond (beq t false) q p ≤ℤ p) × (cond (beq t false) q p ≤ℤ q)
-    go true e = (le_self p, lt_le (lt_yes refl refl e))
-    go false e = (lt_no refl refl e, le_self q)
-
-above-both : (p q : ℤ) → (p ≤ℤ further true p q) × (q ≤ℤ further true p q)
-above-both p q = go (lt_z p q) refl
-  where
-    go : (t : Bool) → lt_z p q ≡ t → (p ≤ℤ cond (beq t true) q p) × (q ≤ℤ cond (beq t true) q p)
+    go : (t : Bool) → lt_z q p ≡ t → (cond t q p ≤ℤ p) × (cond t q p ≤ℤ q)
     go true e = (lt_le (lt_yes refl refl e), le_self q)
     go false e = (le_self p, lt_no refl refl e)
 
+above-both : (p q : ℤ) → (p ≤ℤ further true p q) × (q ≤ℤ further true p q)
+above-both p q = go (lt_z q p) refl
+  where
+    go : (t : Bool) → lt_z q p ≡ t → (p ≤ℤ cond t p q) × (q ≤ℤ cond t p q)
+    go true e = (le_self p, lt_le (lt_yes refl refl e))
+    go false e = (lt_no refl refl e, le_self q)
+
 further_small : {n : ℕ} (high : Bool) (p q : ℤ) → Small n p → Small n q → Small n (further high p q)
-further_small {n} high p q h l = go (beq (lt_z p q) high)
+further_small {n} true p q h l = go (lt_z q p)
+  where
+    go : (t : Bool) → Small n (cond t p q)
+    go true = h
+    go false = l
+further_small {n} false p q h l = go (lt_z q p)
   where
     go : (t : Bool) → Small n (cond t q p)
     go true = l

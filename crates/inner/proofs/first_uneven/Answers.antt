@@ -14,10 +14,10 @@ use Rattle.inner.proofs.first_uneven.Goals as goal
 use Rattle.inner.proofs.first_uneven.Goals.{Start}
 
 -- ---- where the rings stand
-lowest : (s : Start) → get_or s.args.starts.now s.args.from 0 ≤ get_or s.args.starts.now s.args.to 0
+lowest : (s : Start) → get_or s.args.rings.now.starts s.args.from 0 ≤ get_or s.args.rings.now.starts s.args.to 0
 lowest s = order s.requires.lies.rings s.args.to (omega (arith, s.requires.lies.some)) (le_refl s.args.to)
 
-highest : (s : Start) → get_or s.args.starts.now s.args.to 0 ≤ 1024
+highest : (s : Start) → get_or s.args.rings.now.starts s.args.to 0 ≤ 1024
 highest s = start-few s.requires.lies.rings s.args.to s.requires.lies.some (le_refl s.args.to)
 
 pub overflow_cast-first : goal.overflow_cast-first
@@ -25,9 +25,6 @@ overflow_cast-first c = omega (arith, lowest ((goal.at.overflow_cast-first c).St
 
 pub overflow_cast-last : goal.overflow_cast-last
 overflow_cast-last c = omega (arith, lowest ((goal.at.overflow_cast-last c).Start), highest ((goal.at.overflow_cast-last c).Start))
-
-pub offset_bounds-all-first : goal.offset_bounds-all-first
-offset_bounds-all-first c = omega (arith, lowest ((goal.at.offset_bounds-all-first c).Start), highest ((goal.at.offset_bounds-all-first c).Start))
 
 pub slice_bounds-first_uneven-count : goal.slice_bounds-first_uneven-count
 slice_bounds-first_uneven-count c = lowest ((goal.at.slice_bounds-first_uneven-count c).Start)
@@ -43,7 +40,7 @@ slice_bounds-first_uneven-end c = let a = lowest ((goal.at.slice_bounds-first_un
     search rules
 
 pub first_uneven-requires : goal.first_uneven-requires
-first_uneven-requires c = record { coords = c.requires.coords; listed = entries-listed c.requires.lies.rings c.requires.lies.some; in_bounds = (entries-some c.requires.lies.rings c.requires.lies.some c.requires.in_bounds.0, c.requires.in_bounds.1); near = c.requires.near }
+first_uneven-requires c = record { listed = entries-listed c.requires.lies.rings c.requires.lies.some; in_bounds = (entries-some c.requires.lies.rings c.requires.lies.some c.requires.in_bounds.0, c.requires.in_bounds.1); near = c.requires.near }
 
 pub returns : goal.returns
-returns c = c.first_uneven.ensures ∙ ap (λ (l : List ℕ). uneven_at c.args.tolerance (as_point c.args.n) (places (points_of c.args.points.now) l)) (entries_are c.requires.lies.rings c.requires.lies.some)
+returns c = c.first_uneven.ensures ∙ ap (λ (l : List ℕ). uneven_at c.args.tolerance (as_point c.args.n) (places (points_of c.args.points.now.flat) l)) (entries_are c.requires.lies.rings c.requires.lies.some)

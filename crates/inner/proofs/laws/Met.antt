@@ -158,7 +158,7 @@ module _ (points : List Point) (entries starts : List ℕ) (from to : ℕ) (h : 
   from-none : rings_finding points (get_or starts from 0 - get_or starts from 0) (span (ring_at entries starts) from (to - from)) ≡ whole
   from-none = let z : get_or starts from 0 - get_or starts from 0 ≡ 0 = omega arith in ap (λ (n : ℕ). rings_finding points n (span (ring_at entries starts) from (to - from))) z
 
-  module _ {q : ℕ} (l : Looked points entries starts from to q 0) where
+  module _ {q : ℕ} (l : Looked points entries starts from to q Sound) where
     abbrev ring : List ℕ
     ring = ring_at entries starts q
 
@@ -193,10 +193,10 @@ module _ (points : List Point) (entries starts : List ℕ) (from to : ℕ) (h : 
               ∙ sym (later_position before (ring_finding points ring) which w.1)
               ∙ ap finding_position_of (sym w.0)
 
-      pub found-later : {i : ℕ} → i ≡ met_at k points ring → length ring ≤ i + 1 → Looked points entries starts from to (q + 1) 0
+      pub found-later : {i : ℕ} → i ≡ met_at k points ring → length ring ≤ i + 1 → Looked points entries starts from to (q + 1) Sound
       found-later {i} e s = go (sound_or (ring_finding points ring))
         where
-          go : (ring_finding points ring ≡ Sound) ⊎ (ring_finding points ring ≡ Sound → ⊥) → Looked points entries starts from to (q + 1) 0
+          go : (ring_finding points ring ≡ Sound) ⊎ (ring_finding points ring ≡ Sound → ⊥) → Looked points entries starts from to (q + 1) Sound
           go (inl z) = record { low = omega (arith, l.low); still = λ y. sym (passes points entries starts from to h l.low b z) ∙ l.still refl; told = λ y. absurd (y refl) }
           go (inr f) = let m = (met points ring which (failing f).1).0 in absurd (omega arith)
 

@@ -1,5 +1,5 @@
 -- The rings of a polygon that the tables hold, one by one: what the loop over them keeps.
-use Prim.Native.Nat.{ℕ, zero, suc, ◌+◌, ◌*◌, ◌-◌, ◌≤◌, ◌<◌, ◌%◌}
+use Prim.Native.Nat.{ℕ, zero, suc, ◌+◌, ◌*◌, ◌-◌, ◌≤◌, ◌<◌}
 use Rattle.std.proofs.Common.{le_refl, ◌∙◌, inl, inr, length-drop, length-take-le, drop-drop, SFits, of_z, to_z, to_z-of_z}
 use native.Mathlib.Omega.{arith}
 use Rattle.std.proofs.Math.Decide.{dec_lt}
@@ -30,15 +30,13 @@ use Rattle.holes.specs.held.Rings.{Ring, Rings, Filled, Closings}
 use Rattle.holes.specs.laws.Passes.{span-next, span_end}
 use Rattle.holes.specs.laws.Tables.{rings-from}
 use Rattle.polygon.specs.declared.Finding.{Finding}
-use Rattle.polygon.specs.declared.Finding.TheVariants.{Sound, Short, Unclosed, Repeated, NoNormal, Crossed, Uneven, Shared, Misplaced}
-use Rattle.polygon.specs.Ring.{ring_finding, finding_number_of, finding_position_of}
-use Rattle.polygon.specs.held.Findings.{kept_finding}
+use Rattle.polygon.specs.declared.Finding.TheVariants.{Sound}
+use Rattle.polygon.specs.Ring.{ring_finding, finding_position_of}
 use Rattle.polygon.specs.laws.Checks.{ring_closed}
-use Rattle.polygon.specs.laws.Rows.{kept_sound, sound_or, ring_position_few}
+use Rattle.polygon.specs.laws.Rows.{sound_or, ring_position_few}
 use Rattle.inner.specs.Finding.{later, rings_rows, part}
 use Rattle.inner.specs.held.Told.{Told}
 use Rattle.inner.specs.laws.Rows.{rings_finding, ring_passes, ring_fails, all_pass, later_fault}
-use Rattle.inner.proofs.laws.Checks.{ring_few}
 use Rattle.inner.proofs.laws.Kept.{all_get}
 
 -- ---- where the rings stand
@@ -65,12 +63,12 @@ module _ (points : List Point) (entries starts : List ℕ) (from to : ℕ) where
   abbrev left : ℕ → Finding
   left q = rings_finding points (get_or starts q 0 - get_or starts from 0) (span (ring_at entries starts) q (to - q))
 
-  pub record Looked (q kept : ℕ) : Type 0 where
+  pub record Looked (q : ℕ) (found : Finding) : Type 0 where
     pub low : from ≤ q
-    pub still : kept ≡ 0 → left q ≡ left from
-    pub told : (kept ≡ 0 → ⊥) → kept ≡ kept_finding (left from)
+    pub still : found ≡ Sound → left q ≡ left from
+    pub told : (found ≡ Sound → ⊥) → found ≡ left from
 
-  pub looked_none : Looked from 0
+  pub looked_none : Looked from Sound
   looked_none = record { low = le_refl from; still = λ e. refl; told = λ h. absurd (h refl) }
 
   module _ (h : Rings entries starts from to) where
@@ -95,40 +93,43 @@ module _ (points : List Point) (entries starts : List ℕ) (from to : ℕ) where
           ap (rings_finding points before) (span-next (ring_at entries starts) q to b)
           ∙ ring_fails points before (ring_at entries starts q) (span (ring_at entries starts) (q + 1) (to - (q + 1))) e
 
-      pub looked-more : {kept k r : ℕ} → Looked q kept → k ≡ kept_finding own → Told kept k before r → Looked (q + 1) r
-      unfolding later kept_finding finding_number_of finding_position_of
-      looked-more {kept} {k} {r} l e t =
+      pub looked-more : {found f r : Finding} → Looked q found → f ≡ own → Told found f before r → Looked (q + 1) r
+      unfolding later
+      looked-more {found} {f} {r} l e t =
           record {
             low = omega arith;
-            still = λ z. go-still z kept refl (sound_or own);
-            told = λ z. go-told z kept refl (sound_or own);
+            still = λ z. go-still z (sound_or found) (sound_or own);
+            told = λ z. go-told z (sound_or found) (sound_or own);
           }
         where
-          new : kept ≡ 0 → r ≡ kept_finding (later before own)
-          new z = t.new z own (ring_few points (ring_at entries starts q)) e
+          new : found ≡ Sound → r ≡ later before own
+          new z = t.new z ∙ ap (later before) e
 
-          go-still : r ≡ 0 → (n : ℕ) → kept ≡ n → (own ≡ Sound) ⊎ (own ≡ Sound → ⊥) → left (q + 1) ≡ left from
-          go-still z zero f (inl s) = sym (passes s) ∙ l.still f
-          go-still z zero f (inr s) = absurd (s (later_fault before own (kept_sound (later before own) (sym (new f) ∙ z))))
-          go-still z (suc n) f s = let g = t.had (λ y. omega arith) in absurd (omega arith)
+          go-still : r ≡ Sound → (found ≡ Sound) ⊎ (found ≡ Sound → ⊥) → (own ≡ Sound) ⊎ (own ≡ Sound → ⊥) → left (q + 1) ≡ left from
+          go-still z (inl g) (inl s) = sym (passes s) ∙ l.still g
+          go-still z (inl g) (inr s) = absurd (s (later_fault before own (sym (new g) ∙ z)))
+          go-still z (inr g) s = absurd (g (sym (t.had g) ∙ z))
 
-          go-told : (r ≡ 0 → ⊥) → (n : ℕ) → kept ≡ n → (own ≡ Sound) ⊎ (own ≡ Sound → ⊥) → r ≡ kept_finding (left from)
-          go-told z zero f (inl s) = absurd (z (new f ∙ ap (λ (g : Finding). kept_finding (later before g)) s))
-          go-told z zero f (inr s) = new f ∙ ap kept_finding (sym (fails s) ∙ l.still f)
-          go-told z (suc n) f s = t.had (λ y. omega arith) ∙ l.told (λ y. omega arith)
+          later_sound : own ≡ Sound → later before own ≡ Sound
+          later_sound s = ap (later before) s
 
-    pub looked-all : {q kept : ℕ} → Looked q kept → to ≤ q → kept ≡ kept_finding (rings_finding points 0 (span (ring_at entries starts) from (to - from)))
-    unfolding rings_finding rings_rows first kept_finding finding_number_of finding_position_of
-    looked-all {q} {kept} l e =
+          go-told : (r ≡ Sound → ⊥) → (found ≡ Sound) ⊎ (found ≡ Sound → ⊥) → (own ≡ Sound) ⊎ (own ≡ Sound → ⊥) → r ≡ left from
+          go-told z (inl g) (inl s) = absurd (z (new g ∙ later_sound s))
+          go-told z (inl g) (inr s) = new g ∙ sym (fails s) ∙ l.still g
+          go-told z (inr g) s = t.had g ∙ l.told g
+
+    pub looked-all : {q : ℕ} {found : Finding} → Looked q found → to ≤ q → found ≡ rings_finding points 0 (span (ring_at entries starts) from (to - from))
+    unfolding rings_finding rings_rows first
+    looked-all {q} {found} l e =
         let z : get_or starts from 0 - get_or starts from 0 ≡ 0 = omega arith in
-        go kept refl ∙ ap (λ (n : ℕ). kept_finding (rings_finding points n (span (ring_at entries starts) from (to - from)))) z
+        go (sound_or found) ∙ ap (λ (n : ℕ). rings_finding points n (span (ring_at entries starts) from (to - from))) z
       where
         none : left q ≡ Sound
         none = ap (rings_finding points (get_or starts q 0 - get_or starts from 0)) (span_end (ring_at entries starts) q to e)
 
-        go : (n : ℕ) → kept ≡ n → kept ≡ kept_finding (left from)
-        go zero f = f ∙ ap kept_finding (sym none ∙ l.still f)
-        go (suc n) f = l.told (λ y. omega arith)
+        go : (found ≡ Sound) ⊎ (found ≡ Sound → ⊥) → found ≡ left from
+        go (inl f) = f ∙ sym none ∙ l.still f
+        go (inr f) = l.told f
 
 -- ---- the sum so far
 module _ {flat : List ℤ} (coords : Coords flat) {entries starts : List ℕ} {from to : ℕ} (h : Rings entries starts from to) where
@@ -183,53 +184,14 @@ module _ {flat : List ℤ} (coords : Coords flat) {entries starts : List ℕ} {f
       none = ring 1 (λ z. z ⊕ k (pos 0) ≔ z) tt
 
 -- ---- a ring's own finding as it is kept
-pub own_few : (points : List Point) (ring : List ℕ) {k : ℕ} → Known ring → k ≡ kept_finding (ring_finding points ring) → k ≤ 4096
-unfolding kept_finding
-own_few points ring h e = omega (arith, h.few, ring_position_few points ring, ring_few points ring)
+pub own_few : (points : List Point) (ring : List ℕ) {f : Finding} → Known ring → f ≡ ring_finding points ring → finding_position_of f ≤ 128
+own_few points ring h e = omega (arith, h.few, ring_position_few points ring, ap finding_position_of e)
 
 pub own-part : {flat : List ℤ} {ring : List ℕ} → Coords flat → Known ring → {r : ℤ} → r ≡ ringPart (points_of flat) ring → to_z w64 (of_z w64 r) ≡ ringPart (points_of flat) ring
 own-part {flat} {ring} c h {r} e = small_back w64 {n = 768000000000000000} tt (subst (λ (x : ℤ). Small 768000000000000000 x) (sym e) (small_more (few (length ring) h.few) (part_small c h))) ∙ e
   where
     few : (n : ℕ) → n ≤ 128 → (n - 1) * 6000000000000000 ≤ 768000000000000000
     few n l = omega arith
-
--- what has a position is moved on
-module _ {own : ℕ} (before : ℕ) where
-  pub told_03 : own % 16 ≡ 3 → (f : Finding) → finding_number_of f ≤ 5 → own ≡ kept_finding f → own + 16 * before ≡ kept_finding (later before f)
-  unfolding kept_finding later finding_number_of finding_position_of
-  told_03 h Sound l e = absurd (omega arith)
-  told_03 h Short l e = absurd (omega arith)
-  told_03 h Unclosed l e = absurd (omega arith)
-  told_03 h (Repeated i) l e = omega arith
-  told_03 h NoNormal l e = absurd (omega arith)
-  told_03 h (Crossed i) l e = absurd (omega arith)
-  told_03 h (Uneven i) l e = absurd (omega arith)
-  told_03 h Shared l e = absurd (omega arith)
-  told_03 h Misplaced l e = absurd (omega arith)
-
-  pub told_05 : own % 16 ≡ 5 → (f : Finding) → finding_number_of f ≤ 5 → own ≡ kept_finding f → own + 16 * before ≡ kept_finding (later before f)
-  unfolding kept_finding later finding_number_of finding_position_of
-  told_05 h Sound l e = absurd (omega arith)
-  told_05 h Short l e = absurd (omega arith)
-  told_05 h Unclosed l e = absurd (omega arith)
-  told_05 h (Repeated i) l e = absurd (omega arith)
-  told_05 h NoNormal l e = absurd (omega arith)
-  told_05 h (Crossed i) l e = omega arith
-  told_05 h (Uneven i) l e = absurd (omega arith)
-  told_05 h Shared l e = absurd (omega arith)
-  told_05 h Misplaced l e = absurd (omega arith)
-
-  pub told_other : (own % 16 ≡ 3 → ⊥) → (own % 16 ≡ 5 → ⊥) → (f : Finding) → finding_number_of f ≤ 5 → own ≡ kept_finding f → own ≡ kept_finding (later before f)
-  unfolding kept_finding later finding_number_of finding_position_of
-  told_other g h Sound l e = e
-  told_other g h Short l e = e
-  told_other g h Unclosed l e = e
-  told_other g h (Repeated i) l e = absurd (g (omega arith))
-  told_other g h NoNormal l e = e
-  told_other g h (Crossed i) l e = absurd (h (omega arith))
-  told_other g h (Uneven i) l e = absurd (omega arith)
-  told_other g h Shared l e = e
-  told_other g h Misplaced l e = e
 
 -- ---- the polygon of the rings `from` up to `to`
 module _ {entries starts : List ℕ} {from to : ℕ} (h : Rings entries starts from to) (some : from < to) where

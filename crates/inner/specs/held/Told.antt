@@ -1,19 +1,19 @@
 -- What code keeps of the rings that it has looked at.
-use Rattle.std.specs.Prelude.{ℕ, ◌≤◌, ◌≡◌, cond, List, eqb}
+use Rattle.std.specs.Prelude.{ℕ, ◌≡◌, cond, List, eqb}
 use Rattle.space.specs.Space.{Point, places}
 use Rattle.plane.specs.Plane.{largest_axis_of}
 use Rattle.ring.specs.Entries.{repeated_at}
 use Rattle.normal.specs.Normal.{normal}
 use Rattle.crossing.specs.Crossed.{crossed_at}
 use Rattle.polygon.specs.declared.Finding.{Finding}
-use Rattle.polygon.specs.Ring.{edges_in, finding_number_of}
-use Rattle.polygon.specs.held.Findings.{kept_finding}
+use Rattle.polygon.specs.declared.Finding.TheVariants.{Sound}
+use Rattle.polygon.specs.Ring.{edges_in}
 use Rattle.inner.specs.Finding.{later}
 
--- r is what is kept where `kept` was before, and a ring of its own finding `own`, of 01 to 05, has so many entries before it
-pub record Told (kept own before r : ℕ) : Type 0 where
-  pub had : (kept ≡ 0 → ⊥) → r ≡ kept
-  pub new : kept ≡ 0 → (f : Finding) → finding_number_of f ≤ 5 → own ≡ kept_finding f → r ≡ kept_finding (later before f)
+-- r is what is told where `found` was before, and a ring of its own finding `own` has so many entries before it
+pub record Told (found own : Finding) (before : ℕ) (r : Finding) : Type 0 where
+  pub had : (found ≡ Sound → ⊥) → r ≡ found
+  pub new : found ≡ Sound → r ≡ later before own
 
 -- where in a ring the check of a number is met: 03, or else 05
 unfoldable pub met_at : ℕ → List Point → List ℕ → ℕ

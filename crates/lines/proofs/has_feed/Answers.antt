@@ -1,20 +1,14 @@
 -- What is left to show of `has_feed`.
-use Prim.Native.Nat.{◌+◌}
-use native.Mathlib.Omega.{arith}
-use mathlib.Core.Path.{◌≡◌, ap}
-use Rattle.lines.specs.held.Offsets.{line_end_of}
-use Rattle.lines.specs.laws.LineLaws.{end_turn}
+use Rattle.std.proofs.Common.{sym, ◌∙◌}
+use Rattle.std.proofs.lemmas.Bool.{eqb-false}
+use Rattle.whole.specs.laws.Bools.{or_left, or_right}
+use Rattle.lines.specs.laws.LineLaws.{feeds_byte, feeds_end}
 use Rattle.lines.proofs.has_feed.Goals as goal
 
-pub loop-i-init : goal.loop-i-init
-loop-i-init c = (omega arith, λ e. let z : c.args.at + 0 ≡ c.args.at = omega arith in ap (line_end_of c.args.stream.now) z)
-
-pub loop-i-preserved : goal.loop-i-preserved
-loop-i-preserved c = let l = c.loop-i in
-    let a = c.args in
-    (omega arith, end_turn a.stream.now a.at l.i l.found (omega arith) l.invariant.1)
+pub loop-b-preserved : goal.loop-b-preserved
+loop-b-preserved c e =
+    let l = c.loop-b in
+    sym (feeds_byte c.args.part.now l.b-index c.loop-b-test.true (eqb-false _ 10 (or_right l.found _ e))) ∙ l.invariant (or_left l.found _ e)
 
 pub returns : goal.returns
-returns c = let l = c.loop-i in
-    let e : l.i ≡ 8 = omega arith in
-    rw e at l.invariant.1
+returns c e = sym (c.loop-b.invariant e) ∙ feeds_end c.args.part.now c.loop-b.b-index c.loop-b-test.false

@@ -1,12 +1,7 @@
--- `has_feed` meets its contract. The invariant: where none is found yet, the line that starts at the offset goes on past the bytes passed.
-use Prim.Native.Nat.{◌+◌, ◌-◌, ◌≤◌}
-use mathlib.Core.Path.{◌≡◌}
-use mathlib.Core.Bool.{false}
-use Rattle.lines.specs.held.Offsets.{line_end_of}
+-- `has_feed` meets its contract. The invariant: where none is found yet, all line feeds are still to come.
+use Rattle.std.specs.Prelude.{◌≡◌, false, drop}
+use Rattle.lines.specs.held.Offsets.{feeds}
 use Rattle.lines.proofs.has_feed.Given as goal
 
-abbrev pub invariant-loop-i : goal.invariant-loop-i
-invariant-loop-i l = (l.i ≤ 8) × (l.found ≡ false → line_end_of l.stream (l.at + l.i) ≡ line_end_of l.stream l.at)
-
-abbrev pub decreases-loop-i : goal.decreases-loop-i
-decreases-loop-i l = 8 - l.i
+abbrev pub invariant-loop-b : goal.invariant-loop-b
+invariant-loop-b l = l.found ≡ false → feeds (drop l.b-index l.part) ≡ feeds l.part

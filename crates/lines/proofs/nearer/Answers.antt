@@ -1,12 +1,9 @@
 -- What is left to show of `nearer`.
-use mathlib.Core.Path.{refl, ◌∙◌}
+use Rattle.std.proofs.Common.{◌≡◌, ◌+◌, ◌-◌, arith, ◌∙◌}
+use Rattle.lines.proofs.Parts.{end_part}
 use Rattle.lines.proofs.nearer.Goals as goal
 
-pub returns-then-stream-lt8 : goal.returns-then-stream-lt8
-returns-then-stream-lt8 c = refl
-
-pub loop-i-init : goal.loop-i-init
-loop-i-init c = refl
-
 pub loop-i-preserved : goal.loop-i-preserved
-loop-i-preserved c = c.has_feed.ensures c.if-has_feed.false ∙ c.loop-i.invariant
+loop-i-preserved c = let i = c.loop-i.i in
+    let n : i + 8 - i ≡ 8 = omega arith in
+    end_part 8 _ i (omega arith) (rw n at (c.has_feed.ensures c.if-not-has_feed.true)) ∙ c.loop-i.invariant

@@ -1,7 +1,5 @@
 -- `nearer` meets its contract. The invariant: the line that starts at `i` ends where the one that starts at `from` does.
-use Prim.Native.Nat.{◌-◌}
-use mathlib.Core.Path.{◌≡◌}
-use lib.ListN.{length}
+use Rattle.std.specs.Prelude.{◌≡◌, ◌-◌, length}
 use Rattle.lines.specs.held.Offsets.{line_end_of}
 use Rattle.lines.proofs.nearer.Given as goal
 

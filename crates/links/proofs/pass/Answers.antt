@@ -1,23 +1,20 @@
 -- What is left to show of `pass`.
-use Prim.Native.Nat.{zero-le}
-use mathlib.Core.Path.{refl}
+use Prim.Native.Nat.{◌+◌, ◌*◌}
+use mathlib.Core.Path.{◌≡◌}
 use native.Mathlib.Omega.{arith}
 use Rattle.reach.specs.laws.Marks.{words_marks}
-use Rattle.links.proofs.Firsts.{begin-none, begin_more, begin_done}
+use Rattle.links.proofs.Firsts.{begin_more, begin_done}
 use Rattle.links.proofs.pass.Goals as goal
 
-pub loop-i-init : goal.loop-i-init
-loop-i-init c = (c.blank-seen.ensures.0, c.requires.0, zero-le, refl, λ es k. begin-none es _ _ _ c.blank-seen.ensures.1 c.requires.1)
-
 pub loop-i-preserved : goal.loop-i-preserved
-loop-i-preserved c = let at = c.loop-i in (
-  c.meet-in-loop-i.ensures.0,
-  c.meet-in-loop-i.ensures.1,
-  omega (arith, c.loop-i-test.true),
-  omega (arith, at.invariant.3),
-  λ es f. begin_more es _ _ f at.invariant.3 c.loop-i-test.true _ _ _ _ _ _ (words_marks 16 _ at.invariant.0).size (words_marks 16 _ at.invariant.1) (words_marks 16 _ c.meet.ensures.0).size (words_marks 16 _ c.meet.ensures.1) (at.invariant.4 es f) (rw (c.key_of-k.ensures, c.node_of.ensures.0, c.node_of-in-loop-i.ensures.0) at c.meet.ensures.2) (rw (c.key_of-k.ensures, c.node_of-in-loop-i-2.ensures.0, c.node_of-in-loop-i-3.ensures.0) at c.meet-in-loop-i.ensures.2),
-)
+loop-i-preserved c = let at = c.loop-i in
+    let next : 2 * (at.i + 1) ≡ 2 * at.i + 2 = omega arith in (
+      omega arith,
+      omega arith,
+      λ es f. rw next
+          (begin_more es _ _ f (omega arith) (omega arith) _ _ _ _ _ _ (words_marks 16 _ at.invariant.0).size (words_marks 16 _ at.invariant.1) (words_marks 16 c.meet.new.seen (omega arith)).size (words_marks 16 c.meet.new.marks (omega arith)) (at.invariant.2 es f) (rw (c.key_of-k.ensures, c.node_of.ensures.0, c.node_of-in-loop-i.ensures.0) at c.meet.ensures) (rw (c.key_of-k.ensures, c.node_of-in-loop-i-2.ensures.0, c.node_of-in-loop-i-3.ensures.0) at c.meet-in-loop-i.ensures)),
+    )
 
 pub returns : goal.returns
 returns c = let at = c.loop-i.invariant in
-    (at.1, λ es k. begin_done es _ _ _ _ k at.3 c.loop-i-test.false (at.4 es k))
+    λ es k. begin_done es _ _ _ _ k (omega arith) (omega arith) (at.2 es k)

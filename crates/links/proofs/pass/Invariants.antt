@@ -1,5 +1,5 @@
 -- `links::pass` meets its contract.
-use Prim.Native.Nat.{ℕ, ◌-◌, ◌%◌, ◌≤◌}
+use Prim.Native.Nat.{ℕ, ◌*◌}
 use mathlib.Core.Path.{◌≡◌}
 use mathlib.Core.List.{List}
 use lib.ListN.{length}
@@ -9,7 +9,4 @@ use Rattle.links.proofs.Firsts.{Beginning}
 use Rattle.links.proofs.pass.Given as goal
 
 abbrev pub invariant-loop-i : goal.invariant-loop-i
-invariant-loop-i l = (length l.seen ≡ 16) × (length l.marks ≡ 16) × (l.i ≤ length l.words) × (l.i % 2 ≡ 0) × ((es : List ℕ) → Cornered es l.words → Beginning es l.words (marks_of l.seen) (marks_of l.marks) l.i)
-
-abbrev pub decreases-loop-i : goal.decreases-loop-i
-decreases-loop-i l = length l.words - l.i
+invariant-loop-i l = (length l.seen ≡ 16) × (length l.marks ≡ 16) × ((es : List ℕ) → Cornered es l.words → Beginning es l.words (marks_of l.seen) (marks_of l.marks) (2 * l.i))

@@ -1,5 +1,4 @@
 -- `links::walks` meets its contract.
-use Prim.Native.Nat.{◌-◌}
 use mathlib.Core.Path.{◌≡◌}
 use lib.ListN.{length}
 use Rattle.bits.specs.held.Bits.{marks_of}
@@ -9,6 +8,3 @@ use Rattle.links.proofs.walks.Given as goal
 
 abbrev pub invariant-loop-e : goal.invariant-loop-e
 invariant-loop-e l = (length l.marks ≡ 16) × Tracing (Links l.out l.inn) (marks_of l.initial.marks) (marks_of l.marks) l.e
-
-abbrev pub decreases-loop-e : goal.decreases-loop-e
-decreases-loop-e l = 1024 - l.e

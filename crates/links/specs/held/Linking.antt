@@ -1,5 +1,5 @@
 -- What the single steps of check 0C leave: one corner of each point, marks that spread from corner to corner, and the lowest point cut off.
-use Rattle.std.specs.Prelude.{ℕ, ◌+◌, ◌/◌, ◌%◌, ◌<◌, ◌≡◌, ◌⊎◌, List, length, get_or, set}
+use Rattle.std.specs.Prelude.{ℕ, Bool, ◌+◌, ◌/◌, ◌%◌, ◌<◌, ◌≡◌, ◌⊎◌, List, length, get_or, set}
 use Rattle.whole.specs.Least.{LeastBelow}
 use Rattle.words.specs.held.Words.{key_from, step_of, next_of, node_of}
 use Rattle.reach.specs.Reach.{Reach}
@@ -82,7 +82,7 @@ pub record Seeds (es l m : List ℕ) : Type 0 where
 -- what one end of an edge leaves, at point v with corners x and y there, of the points seen and the marks: where v was not seen it is, with
 -- x as its first corner, and then the two are joined
 pub record Met (v x y : ℕ) (s m s' m' : List ℕ) : Type 0 where
-  pub to : ℕ
+  pub to : Bool
   pub old : Marked s v → (s' ≡ s) × Joint x y m m' to
   pub new : (Marked s v → ⊥) → (s' ≡ set s v 1) × Joint x y (set m x 1) m' to
 

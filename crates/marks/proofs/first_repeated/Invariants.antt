@@ -1,12 +1,6 @@
 -- `marks::first_repeated` meets its contract. The loop: what is marked is what was met, and what is left tells the entry.
-use mathlib.Core.Path.{◌≡◌}
-use Prim.Native.Nat.{◌-◌}
-use lib.ListN.{length}
 use Rattle.marks.proofs.Passed.{Passed}
 use Rattle.marks.proofs.first_repeated.Given as goal
 
 abbrev pub invariant-loop-i : goal.invariant-loop-i
-invariant-loop-i l = (l.n ≡ length l.ring) × Passed l.ring l.marks l.i
-
-abbrev pub decreases-loop-i : goal.decreases-loop-i
-decreases-loop-i l = l.n - l.i
+invariant-loop-i l = Passed l.ring l.marks l.i

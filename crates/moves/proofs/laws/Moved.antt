@@ -14,11 +14,12 @@ use Rattle.places.specs.held.Places.{placed, NearPlace}
 use Rattle.places.specs.laws.Near.{placed-points, placed_coords}
 use Rattle.ring.specs.Polygon.{Polygon, one, entries_from}
 use Rattle.ring.specs.held.Rings.{polygon_at, polygons}
+use Rattle.building.specs.declared.Arrays.{Arrays}
 use Rattle.building.specs.declared.Scalars.{Scalars}
 use Rattle.polygon.specs.held.Findings.{kept_finding}
 use Rattle.building.specs.Tables.{stamp_users, moved}
 use Rattle.whole.specs.laws.Places.{tab-length, tab-at}
-use Rattle.building.specs.held.Holds.{Arrays, arrays, held_tables, held_building, Loaded, Found, Summed, Held, Did}
+use Rattle.building.specs.held.Holds.{held_tables, held_building, Loaded, Found, Summed, Held, Did}
 use Rattle.renew.specs.held.Renewed.{kept_at, part_at}
 use Rattle.moves.specs.held.Steps.{restamp, refind, repart, Looked}
 
@@ -90,35 +91,37 @@ module _ {points : List ℤ} {entries starts firsts : List ℕ} {s : Scalars} (l
   pub moved-loaded : NearPlace p → Loaded (placed points n p) entries starts firsts s
   moved-loaded near = record { coords = placed_coords points n p ld.coords near; first = ld.first; layout = ld.layout; ones = ld.ones; entered = ld.entered; tolerant = ld.tolerant; short = ld.short }
 
-module _ (a : Arrays) (s : Scalars) (hd : Held a s) (number n : ℕ) (p : Point) (h : n < s.points) (near : NearPlace p) where
-  pub did_moved : {points' : List ℤ} {stamps' findings' : List ℕ} {parts' : List ℤ}
-      → points' ≡ placed a.points n p
-      → Looked s.tolerance points' a.entries a.starts a.firsts number n s.polygons a.stamps a.findings a.parts stamps' findings' parts'
-      → Did (moved number n p (held_building a s)) (arrays points' a.entries a.starts a.firsts stamps' findings' parts' a.table a.turned) (record { tolerance = s.tolerance; points = s.points; polygons = s.polygons; last = number; edges = s.edges; fixed = s.fixed; shape = s.shape })
+module _ (a a' : Arrays) (s : Scalars) (hd : Held a s) (number n : ℕ) (p : Point) (h : n < s.points) (near : NearPlace p) where
+  pub did_moved : a'.points.flat ≡ placed a.points.flat n p
+      → a'.rings ≡ a.rings
+      → a'.table ≡ a.table
+      → a'.turned ≡ a.turned
+      → Looked s.tolerance a'.points.flat a.rings.entries a.rings.starts a.rings.firsts number n s.polygons a.stamps a.findings a.parts a'.stamps a'.findings a'.parts
+      → Did (moved number n p (held_building a s)) a' (record { tolerance = s.tolerance; points = s.points; polygons = s.polygons; last = number; edges = s.edges; fixed = s.fixed; shape = s.shape })
   unfolding held_building held_tables moved
-  did_moved e lo =
+  did_moved e rg tb tu looked =
       let ld = hd.loaded in
       let kp = hd.kept in
-      let w : 3 * n + 2 < length a.points = omega (arith, ld.coords.room, ld.entered.few) in
+      let lo : Looked s.tolerance (placed a.points.flat n p) a.rings.entries a.rings.starts a.rings.firsts number n s.polygons a.stamps a.findings a.parts a'.stamps a'.findings a'.parts = rw e at looked in
+      let w : 3 * n + 2 < length a.points.flat = omega (arith, ld.coords.room, ld.entered.few) in
       let few : s.polygons ≤ 256 = ld.layout.few in
       let b : s.polygons ≤ length a.stamps = omega (arith, hd.stamped) in
       let lm = moved-loaded ld n p near in
-      let fo = moved_found a.points a.entries a.starts a.firsts s few n p w kp.found in
-      let su = moved_summed a.points a.entries a.starts a.firsts s few n p w kp.summed in
-      rw (lo.stamped, lo.found, lo.summed, e)
-      (record {
+      let fo = moved_found a.points.flat a.rings.entries a.rings.starts a.rings.firsts s few n p w kp.found in
+      let su = moved_summed a.points.flat a.rings.entries a.rings.starts a.rings.firsts s few n p w kp.summed in
+      record {
         held = record {
-          loaded = record { coords = lm.coords; first = lm.first; layout = lm.layout; ones = lm.ones; entered = lm.entered; tolerant = lm.tolerant; short = lm.short };
-          stamped = length-upto (restamp a.entries a.starts a.firsts number n) 0 a.stamps s.polygons ∙ hd.stamped;
+          loaded = rw (e, rg) (record { coords = lm.coords; first = lm.first; layout = lm.layout; ones = lm.ones; entered = lm.entered; tolerant = lm.tolerant; short = lm.short });
+          stamped = ap length lo.stamped ∙ length-upto (restamp a.rings.entries a.rings.starts a.rings.firsts number n) 0 a.stamps s.polygons ∙ hd.stamped;
           kept = record {
-            found = record { size = fo.size; each = fo.each };
-            summed = record { size = su.size; each = su.each };
-            table-size = kp.table-size;
-            turned-size = kp.turned-size;
-            listed = kp.listed;
-            shaped = kp.shaped;
-            shown = kp.shown;
+            found = rw (e, rg, lo.found) (record { size = fo.size; each = fo.each });
+            summed = rw (e, rg, lo.summed) (record { size = su.size; each = su.each });
+            table-size = ap length tb ∙ kp.table-size;
+            turned-size = ap length tu ∙ kp.turned-size;
+            listed = rw (rg, tb, tu) kp.listed;
+            shaped = rw (rg, tb, tu) kp.shaped;
+            shown = rw (tb, tu) kp.shown;
           };
         };
-        is = rw (placed-points a.points n p w, take-set-lt s.points (points_of a.points) n p h, moved_stamps a.entries a.starts a.firsts number n s.polygons a.stamps b);
-      })
+        is = rw (e, rg, lo.stamped, placed-points a.points.flat n p w, take-set-lt s.points (points_of a.points.flat) n p h, moved_stamps a.rings.entries a.rings.starts a.rings.firsts number n s.polygons a.stamps b);
+      }

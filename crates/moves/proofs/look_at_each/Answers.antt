@@ -1,45 +1,30 @@
 -- What is left to show of `look_at_each`.
-use Prim.Native.Nat.{◌+◌, ℕ}
-use mathlib.Core.Path.{◌≡◌, ◌∙◌, subst}
-use native.Mathlib.Omega.{arith}
-use borrow.Author.Rules.{rules}
+use Rattle.std.proofs.Common.{◌+◌, arith}
+use Rattle.building.specs.laws.Beside.{beside_none, beside_more, beside_loaded}
 use Rattle.building.specs.laws.Rings.{stands_of}
 use Rattle.moves.specs.laws.Rings.{span_of}
-use Rattle.moves.specs.held.Steps.{LookedFrom}
-use Rattle.moves.specs.laws.Spans.{looked-from-none, from-stamps, from-findings, from_parts, looked-from-more}
+use Rattle.moves.specs.laws.Spans.{looked-from-none, looked-from-more}
 use Rattle.moves.proofs.look_at_each.Goals as goal
 
 pub loop-p-init : goal.loop-p-init
-loop-p-init c = let a = c.args in
-    (search rules, (search rules, looked-from-none a.s.tolerance a.points.now a.entries.now a.starts.now a.firsts.now a.number a.n a.from))
+loop-p-init c = let g = c.args in
+    let a = g.arrays.now in
+    record { looked = looked-from-none g.s.tolerance a.points.flat a.rings.entries a.rings.starts a.rings.firsts g.number g.n g.from; beside = beside_none }
 
 pub touch-requires : goal.touch-requires
-touch-requires c = let a = c.args in
-    let lp = c.loop-p in
-    let i = lp.invariant.1.1 in
-    let ld = c.requires.loaded in
-    let z = c.requires.from_le_to.1.1 in record {
-      coords = ld.coords;
-      stands = (stands_of ld lp.p (omega (arith, c.loop-p-test.true, c.requires.from_le_to.1.0)), span_of ld lp.p (lp.p + 1) (omega arith) (omega (arith, c.loop-p-test.true, c.requires.from_le_to.1.0)));
-      tolerance_bound = (
-        ld.tolerant,
-        (
-          from-stamps a.s.tolerance a.points.now a.entries.now a.starts.now a.firsts.now a.number a.n a.from i ∙ z.0,
-          (
-            from-findings a.s.tolerance a.points.now a.entries.now a.starts.now a.firsts.now a.number a.n a.from i ∙ z.1.0,
-            from_parts a.s.tolerance a.points.now a.entries.now a.starts.now a.firsts.now a.number a.n a.from i ∙ z.1.1,
-          ),
-        ),
-      );
+touch-requires c = let p = c.loop-p.p in
+    let ld = beside_loaded c.loop-p.invariant.beside c.requires.loaded in
+    record {
+      stands = (stands_of ld p (omega arith), span_of ld p (p + 1) (omega arith) (omega arith));
+      tolerance_bound = ld.tolerant;
     }
 
 pub loop-p-preserved : goal.loop-p-preserved
-loop-p-preserved c = let a = c.args in
-    let lp = c.loop-p in
-    (search rules, (search rules, looked-from-more a.s.tolerance a.points.now a.entries.now a.starts.now a.firsts.now a.number a.n a.from lp.invariant.1.1 lp.invariant.0 c.touch.ensures))
-
-pub returns : goal.returns
-returns c = let a = c.args in
-    let lp = c.loop-p in
-    let e : lp.p ≡ a.to = omega arith in
-    subst (λ (m : ℕ). LookedFrom a.s.tolerance a.points.now a.entries.now a.starts.now a.firsts.now a.number a.n a.from m a.stamps.now a.findings.now a.parts.now lp.stamps lp.findings lp.parts) e lp.invariant.1.1
+loop-p-preserved c = let g = c.args in
+    let a = g.arrays.now in
+    let i = c.loop-p.invariant in
+    let e = c.touch.ensures in
+    record {
+      looked = looked-from-more g.s.tolerance a.points.flat a.rings.entries a.rings.starts a.rings.firsts g.number g.n g.from i.looked (omega arith) (rw (i.beside.points, i.beside.rings) at e.touched);
+      beside = beside_more i.beside e.beside;
+    }

@@ -3,9 +3,9 @@ use Rattle.std.specs.Prelude.{ℕ, ◌≡◌, List, ℤ, pos}
 use Rattle.std.proofs.Common.{sym, ap, ◌∙◌}
 use Rattle.whole.specs.laws.Agree.{agree}
 use Rattle.space.specs.Space.{Point}
+use Rattle.building.specs.declared.Arrays.{Arrays}
 use Rattle.building.specs.declared.Scalars.{Scalars}
 use Rattle.whole.specs.held.Stored.{upto}
-use Rattle.building.specs.held.Holds.{Arrays}
 use Rattle.moves.specs.held.Steps.{refind, repart}
 use Rattle.moves.specs.held.Writes.{MoveWrites}
 
@@ -19,7 +19,7 @@ module _ (a : Arrays) (s : Scalars) where
     move-agrees = (
       same,
       agree m.looked.stamped m'.looked.stamped,
-      m.looked.found ∙ ap (λ (l : List ℤ). upto (refind s.tolerance l a.entries a.starts a.firsts n) 0 a.findings s.polygons) same ∙ sym m'.looked.found,
-      m.looked.summed ∙ ap (λ (l : List ℤ). upto (repart l a.entries a.starts a.firsts n) (pos 0) a.parts s.polygons) same ∙ sym m'.looked.summed,
+      m.looked.found ∙ ap (λ (l : List ℤ). upto (refind s.tolerance l a.rings.entries a.rings.starts a.rings.firsts n) 0 a.findings s.polygons) same ∙ sym m'.looked.found,
+      m.looked.summed ∙ ap (λ (l : List ℤ). upto (repart l a.rings.entries a.rings.starts a.rings.firsts n) (pos 0) a.parts s.polygons) same ∙ sym m'.looked.summed,
       agree m.scalars m'.scalars,
     )

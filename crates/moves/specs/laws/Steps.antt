@@ -5,10 +5,10 @@ use Rattle.std.proofs.Common.{sym, ap, ◌∙◌}
 use Rattle.std.proofs.lemmas.List.{set-get_or}
 use Rattle.whole.specs.Lists.{lists}
 use Rattle.whole.specs.held.Stored.{upto}
-use Rattle.whole.specs.laws.Stores.{length-upto}
 use Rattle.ring.specs.Polygon.{entries_from}
 use Rattle.ring.specs.held.Rings.{polygon_at}
 use Rattle.renew.specs.held.Renewed.{Refreshed}
+use Rattle.whole.specs.laws.Stores.{length-upto}
 use Rattle.moves.specs.held.Steps.{restamp, refind, repart, Touched, Looked}
 
 module _ (tolerance : ℕ) (points : List ℤ) (entries starts firsts : List ℕ) (number n : ℕ) where

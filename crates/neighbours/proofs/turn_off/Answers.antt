@@ -1,22 +1,21 @@
--- `neighbours::turn_off` meets its contract. The products of small ways fit.
-use mathlib.Core.List.{[], ◌∷◌}
-use mir.Syntax.{w64}
-use Rattle.whole.specs.laws.Mach.{whole, asks, yields}
+-- `neighbours::turn_off` meets its contract. The formula is quoted.
+use Rattle.std.specs.Prelude.{[]}
+use Rattle.std.specs.Int.{w64}
+use Rattle.whole.specs.laws.Mach.{asks, yields}
 use Rattle.whole.specs.laws.Solve.{v, ◌⊖◌, ◌⊗◌}
+use Rattle.plane.specs.Plane.{turn_off_of}
+use Rattle.plane.specs.laws.Numbers.{ends}
 use Rattle.neighbours.proofs.turn_off.Goals as goal
 
 pub overflow_mul-result : goal.overflow_mul-result
-overflow_mul-result c = asks w64 (let h = c.requires in
-    whole w64 tt h.0 ∷ whole w64 tt h.1 ∷ whole w64 tt h.2 ∷ whole w64 tt h.3 ∷ []) (v 0 ⊗ v 3) tt
+overflow_mul-result c = let h = c.requires in asks w64 (ends h.0 (ends h.1 [])) ((v 2 ⊖ v 0) ⊗ (v 7 ⊖ v 5)) tt
 
 pub overflow_mul-result-2 : goal.overflow_mul-result-2
-overflow_mul-result-2 c = asks w64 (let h = c.requires in
-    whole w64 tt h.0 ∷ whole w64 tt h.1 ∷ whole w64 tt h.2 ∷ whole w64 tt h.3 ∷ []) (v 1 ⊗ v 2) tt
+overflow_mul-result-2 c = let h = c.requires in asks w64 (ends h.0 (ends h.1 [])) ((v 3 ⊖ v 1) ⊗ (v 6 ⊖ v 4)) tt
 
-pub overflow_sub-result : goal.overflow_sub-result
-overflow_sub-result c = asks w64 (let h = c.requires in
-    whole w64 tt h.0 ∷ whole w64 tt h.1 ∷ whole w64 tt h.2 ∷ whole w64 tt h.3 ∷ []) (v 0 ⊗ v 3 ⊖ v 1 ⊗ v 2) tt
+pub overflow_sub-result-5 : goal.overflow_sub-result-5
+overflow_sub-result-5 c = let h = c.requires in asks w64 (ends h.0 (ends h.1 [])) ((v 2 ⊖ v 0) ⊗ (v 7 ⊖ v 5) ⊖ (v 3 ⊖ v 1) ⊗ (v 6 ⊖ v 4)) tt
 
 pub returns : goal.returns
-returns c = yields w64 (let h = c.requires in
-    whole w64 tt h.0 ∷ whole w64 tt h.1 ∷ whole w64 tt h.2 ∷ whole w64 tt h.3 ∷ []) (v 0 ⊗ v 3 ⊖ v 1 ⊗ v 2) tt
+unfolding turn_off_of
+returns c = let h = c.requires in yields w64 (ends h.0 (ends h.1 [])) ((v 2 ⊖ v 0) ⊗ (v 7 ⊖ v 5) ⊖ (v 3 ⊖ v 1) ⊗ (v 6 ⊖ v 4)) tt

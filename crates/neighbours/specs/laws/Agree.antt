@@ -9,4 +9,4 @@ pub share_more_agrees : (e f : Edge) (r₁ r₂ : Bool) → r₁ ≡ share_more_
 share_more_agrees e f r₁ r₂ = agree
 
 pub edge_at_agrees : (us vs : List ℤ) (i : ℕ) (r₁ r₂ : Edge) → as_segment r₁ ≡ edge_at us vs i → as_segment r₂ ≡ edge_at us vs i → r₁ ≡ r₂
-edge_at_agrees us vs i r₁ r₂ h k = λ j. record { au = (agree h k j).0.u; av = (agree h k j).0.v; bu = (agree h k j).1.u; bv = (agree h k j).1.v }
+edge_at_agrees us vs i r₁ r₂ h k = λ j. record { a = record { u = (agree h k j).0.u; v = (agree h k j).0.v }; b = record { u = (agree h k j).1.u; v = (agree h k j).1.v } }

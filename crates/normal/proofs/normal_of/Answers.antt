@@ -12,25 +12,25 @@ use Rattle.normal.specs.laws.Sums.{cross-of}
 use Rattle.normal.proofs.normal_of.Goals as goal
 
 pub normal_of_three-requires : goal.normal_of_three-requires
-normal_of_three-requires c = record { coords = c.requires.coords; a_bound = (c.requires.known.each 0 (omega arith), c.requires.known.each 1 (omega arith), c.requires.known.each 2 (omega arith)) }
+normal_of_three-requires c = (c.requires.known.each 0 (omega arith), c.requires.known.each 1 (omega arith), c.requires.known.each 2 (omega arith))
 
-pub returns-then-m-eq4 : goal.returns-then-m-eq4
-returns-then-m-eq4 c = let h = c.requires.coords in
+pub returns-in-len4 : goal.returns-in-len4
+returns-in-len4 c = let h = c.args.points.now.coords in
     let k = c.requires.known in
     let l = c.args.ring.now in
     c.normal_of_three.ensures
     ∙ cross-of h (get_or l 0 0) (get_or l 1 0) (get_or l 2 0) (k.each 0 (omega arith)) (k.each 1 (omega arith)) (k.each 2 (omega arith)) refl refl
-    ∙ sym (triangle_normal (points_of c.args.points.now) l c.if-m-eq4.true (unclosed_is c.is_closed.ensures (let e : c.is_closed.result ≡ true = cc in ap not e)))
+    ∙ sym (triangle_normal (points_of c.args.points.now.flat) l (omega arith) (unclosed_is c.is_closed.ensures (let e : c.is_closed.result ≡ true = cc in ap not e)))
 
 pub normal_of_four-requires : goal.normal_of_four-requires
-normal_of_four-requires c = record { coords = c.requires.coords; a_bound = (c.requires.known.each 0 (omega arith), c.requires.known.each 1 (omega arith), c.requires.known.each 2 (omega arith), c.requires.known.each 3 (omega arith)) }
+normal_of_four-requires c = (c.requires.known.each 0 (omega arith), c.requires.known.each 1 (omega arith), c.requires.known.each 2 (omega arith), c.requires.known.each 3 (omega arith))
 
-pub returns-then-m-eq5 : goal.returns-then-m-eq5
-returns-then-m-eq5 c = let h = c.requires.coords in
+pub returns-in-len5 : goal.returns-in-len5
+returns-in-len5 c = let h = c.args.points.now.coords in
     let k = c.requires.known in
     let l = c.args.ring.now in
     c.normal_of_four.ensures
     ∙ ap₂ plus
     (cross-of h (get_or l 0 0) (get_or l 1 0) (get_or l 2 0) (k.each 0 (omega arith)) (k.each 1 (omega arith)) (k.each 2 (omega arith)) refl refl)
     (cross-of h (get_or l 0 0) (get_or l 2 0) (get_or l 3 0) (k.each 0 (omega arith)) (k.each 2 (omega arith)) (k.each 3 (omega arith)) refl refl)
-    ∙ sym (quad_normal (points_of c.args.points.now) l c.if-m-eq5.true (unclosed_is c.is_closed.ensures (let e : c.is_closed.result ≡ true = cc in ap not e)))
+    ∙ sym (quad_normal (points_of c.args.points.now.flat) l (omega arith) (unclosed_is c.is_closed.ensures (let e : c.is_closed.result ≡ true = cc in ap not e)))

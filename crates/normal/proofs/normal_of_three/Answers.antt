@@ -5,7 +5,7 @@ use Rattle.normal.specs.laws.Sums.{way-near}
 use Rattle.normal.proofs.normal_of_three.Goals as goal
 
 pub cross-requires : goal.cross-requires
-cross-requires c = (way-near c.args.a c.args.b c.requires.coords c.toward-p.ensures, way-near c.args.a c.args.c c.requires.coords c.toward-q.ensures)
+cross-requires c = (way-near c.args.a c.args.b c.args.points.now.coords c.toward-p.ensures, way-near c.args.a c.args.c c.args.points.now.coords c.toward-q.ensures)
 
 pub returns : goal.returns
 returns c = c.cross.ensures ∙ (λ i. cross (c.toward-p.ensures i) (c.toward-q.ensures i))

@@ -1,29 +1,26 @@
--- `places::place` meets its contract: three stores of small numbers.
-use Prim.Native.Nat.{◌+◌, ◌*◌}
-use mathlib.Core.Path.{◌∙◌}
-use lib.ListN.{set}
-use mir.Syntax.{w32, w64}
-use Rattle.whole.specs.laws.Size.{small_back, back_small, call_is}
+-- `places::place` meets its contract: three stores of numbers that fit either width.
+use Rattle.std.proofs.Common.{◌≡◌, ◌+◌, ◌*◌, ◌∙◌, set, ℤ, of_z, to_z, w32, w64}
+use Rattle.whole.specs.held.Small.{Small}
+use Rattle.whole.specs.laws.Size.{small_fits, small_back, back_small}
 use Rattle.places.specs.held.Places.{point3}
 use Rattle.places.specs.laws.Near.{near-place}
 use Rattle.places.proofs.place.Goals as goal
 
-pub narrow-a-requires : goal.narrow-a-requires
-narrow-a-requires c = back_small w64 tt (near-place (point3 c.args.x c.args.y c.args.z) c.requires.z_value).x
+pub overflow_cast-points : goal.overflow_cast-points
+overflow_cast-points c = small_fits {w = w32} tt (back_small w64 tt (near-place (point3 c.args.x c.args.y c.args.z) c.requires.z_value).x)
 
-pub narrow-b-requires : goal.narrow-b-requires
-narrow-b-requires c = back_small w64 tt (near-place (point3 c.args.x c.args.y c.args.z) c.requires.z_value).y
+pub overflow_cast-points-2 : goal.overflow_cast-points-2
+overflow_cast-points-2 c = small_fits {w = w32} tt (back_small w64 tt (near-place (point3 c.args.x c.args.y c.args.z) c.requires.z_value).y)
 
-pub narrow-c-requires : goal.narrow-c-requires
-narrow-c-requires c = back_small w64 tt (near-place (point3 c.args.x c.args.y c.args.z) c.requires.z_value).z
+pub overflow_cast-points-3 : goal.overflow_cast-points-3
+overflow_cast-points-3 c = small_fits {w = w32} tt (back_small w64 tt (near-place (point3 c.args.x c.args.y c.args.z) c.requires.z_value).z)
+
+-- a coordinate as it is held
+held : {z : ℤ} → Small 100000 z → to_z w32 (of_z w32 (to_z w64 (of_z w64 z))) ≡ z
+held h = small_back w32 tt (back_small w64 tt h) ∙ small_back w64 tt h
 
 pub returns : goal.returns
-returns c = let near = near-place (point3 c.args.x c.args.y c.args.z) c.requires.z_value in
+returns c =
+    let near = near-place (point3 c.args.x c.args.y c.args.z) c.requires.z_value in
     let i = 3 * c.args.n in
-    λ k. set
-    (set
-    (set c.args.points.now i (call_is w32 c.narrow-a.type_inv (c.narrow-a.ensures ∙ small_back w64 tt near.x) k))
-    (i + 1)
-    (call_is w32 c.narrow-b.type_inv (c.narrow-b.ensures ∙ small_back w64 tt near.y) k))
-    (i + 2)
-    (call_is w32 c.narrow-c.type_inv (c.narrow-c.ensures ∙ small_back w64 tt near.z) k)
+    λ k. set (set (set c.args.points.now i (held near.x k)) (i + 1) (held near.y k)) (i + 2) (held near.z k)

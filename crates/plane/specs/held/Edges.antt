@@ -2,6 +2,7 @@
 use Rattle.std.specs.Prelude.{ℕ, ◌+◌, List, cond, get_or, ℤ, pos}
 use Rattle.std.specs.Int.Signed.{lt_z}
 use Rattle.whole.specs.held.Small.{Small}
+use Rattle.plane.specs.declared.Spot as held
 use Rattle.plane.specs.declared.Edge.{Edge}
 use Rattle.plane.specs.Plane.{Spot, Segment}
 
@@ -16,9 +17,12 @@ most p q = cond (lt_z q p) p q
 abbrev pub spot : ℤ → ℤ → Spot
 spot u v = record { u = u; v = v }
 
--- the segment that code holds as an `Edge`
+-- the place that code holds as a `Spot`, and the segment that it holds as an `Edge`
+abbrev pub as_spot : held.Spot → Spot
+as_spot p = spot p.u p.v
+
 abbrev pub as_segment : Edge → Segment
-as_segment e = (spot e.au e.av, spot e.bu e.bv)
+as_segment e = (as_spot e.a, as_spot e.b)
 
 -- a place whose numbers are coordinates
 pub record Close (p : Spot) : Type 0 where

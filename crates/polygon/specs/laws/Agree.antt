@@ -7,24 +7,25 @@ use Rattle.plane.specs.Plane.{largest_axis_of}
 use Rattle.normal.specs.Normal.{normal}
 use Rattle.crossing.specs.Crossed.{crossed_at}
 use Rattle.volume.specs.Part.{part}
+use Rattle.polygon.specs.declared.Finding.{Finding}
 use Rattle.polygon.specs.declared.Look.{Look}
 use Rattle.polygon.specs.held.Findings.{kept_finding}
 use Rattle.polygon.specs.Ring.{edges_in, ring_finding, finding, finding_position_of}
 
 pub look_at_agrees : (flat : List ℤ) (ring : List ℕ) (tolerance : ℕ) (r₁ r₂ : Look)
-    → (r₁.kept ≡ kept_finding (finding tolerance (points_of flat) ring)) × (r₁.part ≡ part (points_of flat) ring)
-    → (r₂.kept ≡ kept_finding (finding tolerance (points_of flat) ring)) × (r₂.part ≡ part (points_of flat) ring)
+    → (r₁.finding ≡ finding tolerance (points_of flat) ring) × (r₁.part ≡ part (points_of flat) ring)
+    → (r₂.finding ≡ finding tolerance (points_of flat) ring) × (r₂.part ≡ part (points_of flat) ring)
     → r₁ ≡ r₂
-look_at_agrees flat ring tolerance r₁ r₂ h k = λ i. record { kept = agree h.0 k.0 i; part = agree h.1 k.1 i }
+look_at_agrees flat ring tolerance r₁ r₂ h k = λ i. record { finding = agree h.0 k.0 i; part = agree h.1 k.1 i }
 
 -- by 01 to 05 alone
 pub look_at_ring_agrees : (flat : List ℤ) (ring : List ℕ) (r₁ r₂ : Look)
-    → (r₁.kept ≡ kept_finding (ring_finding (points_of flat) ring)) × (r₁.part ≡ part (points_of flat) ring)
-    → (r₂.kept ≡ kept_finding (ring_finding (points_of flat) ring)) × (r₂.part ≡ part (points_of flat) ring)
+    → (r₁.finding ≡ ring_finding (points_of flat) ring) × (r₁.part ≡ part (points_of flat) ring)
+    → (r₂.finding ≡ ring_finding (points_of flat) ring) × (r₂.part ≡ part (points_of flat) ring)
     → r₁ ≡ r₂
-look_at_ring_agrees flat ring r₁ r₂ h k = λ i. record { kept = agree h.0 k.0 i; part = agree h.1 k.1 i }
+look_at_ring_agrees flat ring r₁ r₂ h k = λ i. record { finding = agree h.0 k.0 i; part = agree h.1 k.1 i }
 
-pub first_of_five_agrees : (flat : List ℤ) (ring : List ℕ) (r₁ r₂ : ℕ) → r₁ ≡ kept_finding (ring_finding (points_of flat) ring) → r₂ ≡ kept_finding (ring_finding (points_of flat) ring) → r₁ ≡ r₂
+pub first_of_five_agrees : (flat : List ℤ) (ring : List ℕ) (r₁ r₂ : Finding) → r₁ ≡ ring_finding (points_of flat) ring → r₂ ≡ ring_finding (points_of flat) ring → r₁ ≡ r₂
 first_of_five_agrees flat ring r₁ r₂ = agree
 
 pub first_crossed_agrees : (flat : List ℤ) (ring : List ℕ) (r₁ r₂ : ℕ) → let ps = places (points_of flat) ring in
@@ -33,6 +34,9 @@ first_crossed_agrees flat ring r₁ r₂ = agree
 
 pub part_of_agrees : (flat : List ℤ) (ring : List ℕ) (r₁ r₂ : ℤ) → r₁ ≡ part (points_of flat) ring → r₂ ≡ part (points_of flat) ring → r₁ ≡ r₂
 part_of_agrees flat ring r₁ r₂ = agree
+
+pub kept_agrees : (f : Finding) (r₁ r₂ : ℕ) → r₁ ≡ kept_finding f → r₂ ≡ kept_finding f → r₁ ≡ r₂
+kept_agrees f r₁ r₂ = agree
 
 pub kept_at_agrees : (number at r₁ r₂ : ℕ) → r₁ ≡ 16 * at + number → r₂ ≡ 16 * at + number → r₁ ≡ r₂
 kept_at_agrees number at r₁ r₂ = agree

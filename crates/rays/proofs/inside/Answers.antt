@@ -1,37 +1,28 @@
 -- What is left to show of `inside`.
 use native.Mathlib.Omega.{arith}
-use mathlib.Core.Path.{◌∙◌, ap}
-use Prim.Native.Nat.{◌+◌}
-use Rattle.plane.specs.Plane.{Spot}
-use Rattle.plane.specs.held.Edges.{spot}
-use Rattle.plane.specs.laws.Numbers.{spot_back, close_back}
-use Rattle.whole.specs.Lists.{steps}
-use Rattle.rays.specs.Inside.{inside}
+use borrow.Author.Rules.{rules}
+use mathlib.Core.Path.{◌≡◌, ◌∙◌, ap}
+use lib.ListN.{length}
+use Rattle.plane.specs.Plane.{Segment}
+use Rattle.plane.specs.held.Edges.{as_spot}
+use Rattle.rays.specs.Inside.{crosses}
 use Rattle.fan.specs.held.Fan.{spot_in}
-use Rattle.rays.specs.held.Seen.{spots_in}
 use Rattle.rays.proofs.laws.Counted.{counted_none, counted_more, counted-all, no_edges}
 use Rattle.rays.proofs.inside.Goals as goal
 
-pub returns-then-n-eq0 : goal.returns-then-n-eq0
-returns-then-n-eq0 c = let a = c.args in
-    no_edges (spot a.qu a.qv) (spot_in a.points.now a.j a.k) a.ring.now (omega (arith, c.if-n-eq0.true))
+pub returns-then-is_empty : goal.returns-then-is_empty
+returns-then-is_empty c = let a = c.args in
+    no_edges (as_spot a.q) (spot_in a.points.now.flat a.plane.u a.plane.v) a.ring.now (let e : length a.ring.now ≡ 0 = search rules in e)
 
 pub loop-i-init : goal.loop-i-init
 loop-i-init c = let a = c.args in
-    counted_none _ (spot_in a.points.now a.j a.k) a.ring.now
-
-pub edge_crosses-c-requires : goal.edge_crosses-c-requires
-edge_crosses-c-requires c = let l = c.loop-i in
-    let h = c.requires.known in
-    record { coords = c.requires.coords; a_bound = (h.each l.i (omega arith), h.each (l.i + 1) (omega arith), c.requires.plane); close = close_back (spot c.args.qu c.args.qv) c.requires.close }
+    counted_none _ (spot_in a.points.now.flat a.plane.u a.plane.v) a.ring.now
 
 pub loop-i-preserved : goal.loop-i-preserved
 loop-i-preserved c = let l = c.loop-i in
     let a = c.args in
-    counted_more _ (spot_in a.points.now a.j a.k) a.ring.now c.edge_crosses-c.result l.invariant (omega arith) c.edge_crosses-c.ensures
+    counted_more _ (spot_in a.points.now.flat a.plane.u a.plane.v) a.ring.now c.crosses-c.result l.invariant (omega arith) (c.crosses-c.ensures ∙ ap (λ (e : Segment). crosses (as_spot a.q) e) c.edge.ensures.places)
 
 pub returns : goal.returns
 returns c = let a = c.args in
-    let l = c.loop-i in
-    counted-all _ (spot_in a.points.now a.j a.k) a.ring.now l.invariant (omega arith)
-    ∙ ap (λ (q : Spot). inside q (steps (spots_in a.points.now a.j a.k a.ring.now))) (spot_back (spot a.qu a.qv) c.requires.close)
+    counted-all _ (spot_in a.points.now.flat a.plane.u a.plane.v) a.ring.now c.loop-i.invariant (omega arith)

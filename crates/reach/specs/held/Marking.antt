@@ -1,5 +1,5 @@
 -- Marks that spread along links: what checks 0B and 0C have in common.
-use Rattle.std.specs.Prelude.{ℕ, zero, suc, ◌+◌, ◌%◌, ◌≤◌, ◌<◌, ◌≡◌, ◌⊎◌, List, [], ◌∷◌, length, get_or, set}
+use Rattle.std.specs.Prelude.{ℕ, zero, suc, Bool, true, false, ◌+◌, ◌%◌, ◌≤◌, ◌<◌, ◌≡◌, ◌⊎◌, List, [], ◌∷◌, length, get_or, set}
 use Rattle.reach.specs.Reach.{Reach}
 
 -- a pair of words of l, the first at an even place, joins p and q
@@ -27,10 +27,10 @@ zeros [] = 0
 zeros (zero ∷ l) = suc (zeros l)
 zeros (suc a ∷ l) = zeros l
 
--- the marks after x and y are joined: as they were where both are marked or neither, else with both; r tells which
-pub record Joint (x y : ℕ) (m m' : List ℕ) (r : ℕ) : Type 0 where
-  pub same : get_or m x 0 ≡ get_or m y 0 → (m' ≡ m) × (r ≡ 0)
-  pub other : (get_or m x 0 ≡ get_or m y 0 → ⊥) → (m' ≡ set (set m x 1) y 1) × (r ≡ 1)
+-- the marks after x and y are joined: as they were where both are marked or neither, else with both; r tells whether one was made
+pub record Joint (x y : ℕ) (m m' : List ℕ) (r : Bool) : Type 0 where
+  pub same : get_or m x 0 ≡ get_or m y 0 → (m' ≡ m) × (r ≡ false)
+  pub other : (get_or m x 0 ≡ get_or m y 0 → ⊥) → (m' ≡ set (set m x 1) y 1) × (r ≡ true)
 
 -- marks that began with m₀: nothing is lost, and nothing is marked that cannot be reached along R
 pub record Grown (R : ℕ → ℕ → Type 0) (m₀ m : List ℕ) : Type 0 where

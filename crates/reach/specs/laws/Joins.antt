@@ -1,5 +1,5 @@
 -- The join of two linked nodes, and marks that grow by joins.
-use Rattle.std.specs.Prelude.{ℕ, zero, suc, ◌≤◌, ◌<◌, ◌≡◌, refl, true, false, ◌⊎◌, ◌≢◌, List, eqb, length, get_or, set}
+use Rattle.std.specs.Prelude.{ℕ, zero, suc, ◌≤◌, ◌<◌, ◌≡◌, refl, Bool, true, false, ◌⊎◌, ◌≢◌, List, eqb, length, get_or, set}
 use Rattle.std.proofs.Common.{suc-ne-zero, arith, sym, ap, subst, ◌∙◌, inl, inr, ⊎_elim, length-set, get_or-set_other}
 use Rattle.std.proofs.Math.Decide.{ℕ_discrete}
 use Rattle.std.proofs.Math.Logic.{by_cases}
@@ -15,19 +15,19 @@ reach_map f g (step r l) = step (reach_map f g r) (g _ _ l)
 -- ---- two nodes, by their marks
 module _ (m : List ℕ) (bits : (p : ℕ) → get_or m p 0 ≤ 1) where
   module _ (x y : ℕ) where
-    pub joint-both : true ≡ eqb (get_or m x 0) 1 → true ≡ eqb (get_or m y 0) 1 → Joint x y m m 0
+    pub joint-both : true ≡ eqb (get_or m x 0) 1 → true ≡ eqb (get_or m y 0) 1 → Joint x y m m false
     joint-both a b = record { same = λ _. (refl, refl); other = λ d. absurd (d (marked_is m x a ∙ sym (marked_is m y b))) }
 
-    pub joint-none : false ≡ eqb (get_or m x 0) 1 → false ≡ eqb (get_or m y 0) 1 → Joint x y m m 0
+    pub joint-none : false ≡ eqb (get_or m x 0) 1 → false ≡ eqb (get_or m y 0) 1 → Joint x y m m false
     joint-none a b = record { same = λ _. (refl, refl); other = λ d. absurd (d (bare_is m x bits a ∙ sym (bare_is m y bits b))) }
 
-    pub joint-first : x < length m → true ≡ eqb (get_or m x 0) 1 → false ≡ eqb (get_or m y 0) 1 → Joint x y m (set m y 1) 1
+    pub joint-first : x < length m → true ≡ eqb (get_or m x 0) 1 → false ≡ eqb (get_or m y 0) 1 → Joint x y m (set m y 1) true
     joint-first h a b = record { same = λ e. absurd (differ e); other = λ _. (ap (λ (l : List ℕ). set l y 1) (sym (set_as_is m x 1 h (marked_is m x a))), refl) }
       where
         differ : get_or m x 0 ≡ get_or m y 0 → ⊥
         differ e = suc-ne-zero 0 (sym (marked_is m x a) ∙ (e ∙ bare_is m y bits b))
 
-    pub joint-second : y < length m → false ≡ eqb (get_or m x 0) 1 → true ≡ eqb (get_or m y 0) 1 → Joint x y m (set m x 1) 1
+    pub joint-second : y < length m → false ≡ eqb (get_or m x 0) 1 → true ≡ eqb (get_or m y 0) 1 → Joint x y m (set m x 1) true
     joint-second h a b = record { same = λ e. absurd (differ e); other = λ _. (sym (set_as_is (set m x 1) y 1 (rw length-set h) (get_or-set_other m x y 1 0 apart ∙ marked_is m y b)), refl) }
       where
         differ : get_or m x 0 ≡ get_or m y 0 → ⊥
@@ -37,10 +37,10 @@ module _ (m : List ℕ) (bits : (p : ℕ) → get_or m p 0 ≤ 1) where
         apart e = differ (ap (λ (k : ℕ). get_or m k 0) (sym e))
 
 -- ---- what a join leaves
-module _ (x y : ℕ) (m m' : List ℕ) (r : ℕ) (j : Joint x y m m' r) where
+module _ (x y : ℕ) (m m' : List ℕ) (r : Bool) (j : Joint x y m m' r) where
   -- no mark was made: the marks are as they were, and agree
-  pub joint_still : r ≡ 0 → (m' ≡ m) × (get_or m x 0 ≡ get_or m y 0)
-  joint_still z = by_cases (ℕ_discrete (get_or m x 0) (get_or m y 0)) (λ e. ((j.same e).0, e)) (λ n. absurd (suc-ne-zero 0 (sym (j.other n).1 ∙ z)))
+  pub joint_still : r ≡ false → (m' ≡ m) × (get_or m x 0 ≡ get_or m y 0)
+  joint_still z = by_cases (ℕ_discrete (get_or m x 0) (get_or m y 0)) (λ e. ((j.same e).0, e)) (λ n. absurd (cc ((j.other n).1, z)))
 
   pub joint_length : length m' ≡ length m
   joint_length = by_cases (ℕ_discrete (get_or m x 0) (get_or m y 0)) (λ e. ap length (j.same e).0) (λ n. ap length (j.other n).0 ∙ (length-set (set m x 1) y 1 ∙ length-set m x 1))

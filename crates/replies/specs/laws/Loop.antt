@@ -17,7 +17,8 @@ use Rattle.frame.specs.Frame.{Frame, decode}
 use Rattle.space.specs.held.Points.{Coords}
 use Rattle.shell.specs.declared.Shape.TheVariants.{Whole}
 use Rattle.taken.specs.laws.Chains.{chained_fresh}
-use Rattle.building.specs.held.Holds.{Arrays, Sizes}
+use Rattle.building.specs.declared.Arrays.{Arrays}
+use Rattle.building.specs.held.Holds.{Sizes}
 use Rattle.building.specs.laws.Load.{loaded-begun}
 use Rattle.service.specs.Service.{State, step}
 use Rattle.service.specs.Stream.{run, answers}
@@ -113,14 +114,14 @@ running_end stream room₀ room a d from r h =
 
 -- ---- the arrays as they are made
 
-pub valid_idle : (a : Arrays) → Coords a.points → length a.entries ≡ 1024 → length a.starts ≡ 1025 → get_or a.starts 0 0 ≡ 0 → length a.firsts ≡ 257 → get_or a.firsts 0 0 ≡ 0 → Sizes a → ((b : ℕ) → get_or a.table b 0 ≡ 0) → Valid a idle_desk
-valid_idle a c e s z g y k f =
+pub valid_idle : (a : Arrays) → length a.rings.entries ≡ 1024 → length a.rings.starts ≡ 1025 → get_or a.rings.starts 0 0 ≡ 0 → length a.rings.firsts ≡ 257 → get_or a.rings.firsts 0 0 ≡ 0 → Sizes a → ((b : ℕ) → get_or a.table b 0 ≡ 0) → Valid a idle_desk
+valid_idle a e s z g y k f =
     record {
-      loaded = loaded-begun a.points a.entries a.starts a.firsts 0 0 0 Whole Whole c e s g z y (omega arith);
+      loaded = loaded-begun a.points.flat a.rings.entries a.rings.starts a.rings.firsts 0 0 0 Whole Whole a.points.coords e s g z y (omega arith);
       sizes = k;
       kept = λ q. absurd (nothing-held q);
       chained = λ q. absurd (nothing-loads q);
-      fresh = λ q. chained_fresh a.points a.table k.table f;
+      fresh = λ q. chained_fresh a.points.flat a.table k.table f;
     }
   where
     nothing-held : Nothing ≡ Holding → ⊥

@@ -3,7 +3,7 @@ use Prim.Native.Nat.{ℕ, zero, suc, ◌+◌, ◌*◌, ◌-◌, ◌/◌, ◌%◌
 use native.Mathlib.Omega.{arith}
 use Rattle.std.specs.Prelude.{◌≡◌, Bool, true, false, ltb, take, ℤ, pos, ◌+ℤ◌}
 use Rattle.std.proofs.Math.Path.{refl, sym, ap, ap₂, subst}
-use Rattle.std.proofs.Common.{◌∙◌, ⊎_elim, le-ltb, ltb-false, get_or-take, length-take-le}
+use Rattle.std.proofs.Common.{add-one, ◌∙◌, ⊎_elim, le-ltb, ltb-false, get_or-take, length-take-le}
 use mathlib.Core.List.{List, [], ◌∷◌, map}
 use Rattle.std.proofs.Math.Option.{Option, none, some}
 use Rattle.std.proofs.Math.ListN.{length, get_or, length-map}
@@ -26,6 +26,7 @@ use Rattle.holes.specs.held.Rings.{Ring}
 use Rattle.shell.specs.Shell.{shape, shape_number_of}
 use Rattle.shell.specs.held.Kept.{Edged}
 use Rattle.directions.specs.laws.Now.{now_is}
+use Rattle.building.specs.declared.Arrays.{Arrays}
 use Rattle.building.specs.declared.Scalars.{Scalars}
 use Rattle.building.specs.declared.Verdict.{Verdict}
 use Rattle.building.specs.declared.Verdict.TheVariants.{Accepted, Faulty, Unsound, Inward}
@@ -36,10 +37,11 @@ use Rattle.whole.specs.laws.Places.{tab-length, tab-at}
 use Rattle.building.specs.laws.Lists.{tab_ext, take_is_tab, map-tab}
 use Rattle.building.specs.laws.Findings.{kept_number, kept_is, kept_fault, Early, broken_one}
 use Rattle.polygon.specs.held.Findings.{kept_finding, finding_of}
-use Rattle.building.specs.held.Holds.{Arrays, held_tables, held_building, Loaded, Found, Summed, Broken, Kept}
+use Rattle.building.specs.held.Holds.{held_tables, held_building, Loaded, Found, Summed, Broken, Kept}
 use Rattle.building.specs.laws.Rings.{ring_of, ring_length, one_each, rings-many, polygon_below}
 use Rattle.totals.specs.held.Scans.{lowest, sum_up_to, Summable}
-use Rattle.totals.specs.laws.Scans.{lowest_is_length, lowest-inside, above, sum_more}
+use Rattle.report.specs.held.Lowest.{NoneFound}
+use Rattle.totals.specs.laws.Scans.{Searched, searched_none, searched-more, searched-found, searched_done, lowest_is_length, lowest-inside, above, sum_more}
 
 -- ---- the lowest finding, as it is kept
 lowest-some : (k : ℕ) (fs : List Finding) → lowest (map kept_finding fs) < length fs
@@ -94,6 +96,18 @@ sum-map f [] = refl
 sum-map f (x ∷ l) = ap (λ (z : ℤ). f x +ℤ z) (sum-map f l)
 
 -- ---- a held building
+-- what the search for the lowest finding met is the lowest
+searched_upto : (l : List ℕ) (n i : ℕ) → n ≤ length l → i ≤ n → NoneFound l i → Searched l n i
+searched_upto l n zero w h e = searched_none l n w
+searched_upto l n (suc i) w h e =
+    rw (← add-one i) (searched-more l n w i (omega arith) (searched_upto l n i w (omega arith) (λ p k. e p (omega arith))) (e i (omega arith)))
+
+pub lowest_met : (l : List ℕ) (n i : ℕ) → n ≤ length l → i < n → NoneFound l i → (get_or l i 0 ≡ 0 → ⊥) → i ≡ lowest (take n l)
+lowest_met l n i w h e f = searched-found l n w i h (searched_upto l n i w (omega arith) e) f
+
+pub none_met : (l : List ℕ) (n : ℕ) → n ≤ length l → NoneFound l n → lowest (take n l) ≡ n
+none_met l n w e = sym (searched_done l n w n (searched_upto l n n w (omega arith) e) (omega arith))
+
 module _ {points : List ℤ} {entries starts firsts : List ℕ} {s : Scalars} (ld : Loaded points entries starts firsts s) where
   abbrev told : Tables
   told = held_tables points entries starts firsts s

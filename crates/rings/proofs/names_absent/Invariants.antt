@@ -1,14 +1,10 @@
 -- `rings::names_absent` meets its contract.
 use Rattle.whole.specs.Lists.{any}
 use Rattle.frame.specs.Frame.{numbers}
-use Prim.Native.Nat.{◌-◌, ◌≤◌}
 use lib.Dec.{leb}
 use lib.ListN.{drop}
 use mathlib.Core.Path.{◌≡◌}
 use Rattle.rings.proofs.names_absent.Given as goal
 
 abbrev pub invariant-loop-i : goal.invariant-loop-i
-invariant-loop-i l = (l.i ≤ l.n) × (any (leb l.points) (drop l.i (numbers (drop 2 l.line))) ≡ any (leb l.points) (numbers (drop 2 l.line)))
-
-abbrev pub decreases-loop-i : goal.decreases-loop-i
-decreases-loop-i l = l.n - l.i
+invariant-loop-i l = any (leb l.points) (drop l.i (numbers (drop 2 l.line))) ≡ any (leb l.points) (numbers (drop 2 l.line))

@@ -6,7 +6,8 @@ use Rattle.std.proofs.Common.{◌∙◌}
 use mathlib.Core.List.{List, [], ◌∷◌}
 use Rattle.std.proofs.Math.Dec.{leb}
 use Rattle.std.proofs.Math.ListN.{length}
-use Rattle.whole.specs.Lists.{given, first, at}
+use Rattle.std.proofs.Math.Option.{Option, none, some}
+use Rattle.whole.specs.Lists.{given, first_given, at}
 use Rattle.whole.specs.laws.Same.{eqb-sym}
 use Rattle.frame.specs.Frame.{Frame, across, decode}
 use Rattle.ring.specs.Polygon.{Polygon, turned_over}
@@ -14,7 +15,7 @@ use Rattle.building.specs.Tables.{Tables, Building, loaded, moved, turned}
 use Rattle.building.specs.Corrections.{Correction, move, turn, corrected, told, corrects}
 use Rattle.building.specs.laws.History.{told-loaded, corrects-told}
 use Rattle.service.specs.declared.Refusal.{Refusal}
-use Rattle.service.specs.declared.Refusal.TheVariants.{Accepted, Malformed, Misplaced, Beyond, Full, Absent, Taken, Late}
+use Rattle.service.specs.declared.Refusal.TheVariants.{Malformed, Misplaced, Beyond, Full, Absent, Taken, Late}
 use Rattle.service.specs.Service.{State, holding, tables_of, building_of, is_malformed, is_misplaced_of, is_late, is_absent, is_beyond_of, is_full, is_taken, refusal, takes, across_of, answer_to, Outcome, outcome, step, accepts}
 use Rattle.service.specs.Fresh.{fresh_held}
 use Rattle.service.specs.Span.{Span, loaded_by, corrections_of, corrected_by, held}
@@ -47,39 +48,27 @@ module _ (st : State) (m n : ℕ) where
   unfolding refusal is_malformed is_misplaced_of is_late is_beyond_of is_full is_taken
   either_refusal =
       let f : Frame = across m n in
-      ap (λ (a : Bool). first Accepted (given (is_malformed f) Malformed ∷ given (is_misplaced_of st f) Misplaced ∷ given (is_late (building_of st) f) Late ∷ given a Absent ∷ given (is_beyond_of f) Beyond ∷ given (is_full (tables_of st) f) Full ∷ given (is_taken (tables_of st) f) Taken ∷ []))
+      ap (λ (a : Bool). first_given (given (is_malformed f) Malformed ∷ given (is_misplaced_of st f) Misplaced ∷ given (is_late (building_of st) f) Late ∷ given a Absent ∷ given (is_beyond_of f) Beyond ∷ given (is_full (tables_of st) f) Full ∷ given (is_taken (tables_of st) f) Taken ∷ []))
       either_absent
 
-  either_outcome : (r : Refusal) → outcome r st (across m n) ≡ outcome r st (across n m)
+  either_outcome : (r : Option Refusal) → outcome r st (across m n) ≡ outcome r st (across n m)
   unfolding outcome takes answer_to
-  either_outcome Accepted = ap (λ (a : List ℕ). record { next = st; answer = a }) (either_across m n (tables_of st))
-  either_outcome Malformed = refl
-  either_outcome Misplaced = refl
-  either_outcome Beyond = refl
-  either_outcome Full = refl
-  either_outcome Absent = refl
-  either_outcome Taken = refl
-  either_outcome Late = refl
+  either_outcome none = ap (λ (a : List ℕ). record { next = st; answer = a }) (either_across m n (tables_of st))
+  either_outcome (some r) = refl
 
   -- two lines that name two points in the two orders, in any state
   pub either_step : (l l' : List ℕ) → decode l ≡ across m n → decode l' ≡ across n m → step st l ≡ step st l'
   unfolding step
-  either_step l l' d d' = rw (d, d') (ap (λ (r : Refusal). outcome r st (across m n)) either_refusal ∙ either_outcome (refusal st (across n m)))
+  either_step l l' d d' = rw (d, d') (ap (λ (r : Option Refusal). outcome r st (across m n)) either_refusal ∙ either_outcome (refusal st (across n m)))
 
 -- ---- the answer to 0C in a span
 
 module _ (b : Building) (m n : ℕ) where
   -- whatever its refusal, it is answered as by the same tables just loaded
-  outcome-loaded : (r : Refusal) → (outcome r (holding b) (across m n)).answer ≡ (outcome r (holding (loaded b.tables)) (across m n)).answer
+  outcome-loaded : (r : Option Refusal) → (outcome r (holding b) (across m n)).answer ≡ (outcome r (holding (loaded b.tables)) (across m n)).answer
   unfolding outcome takes answer_to tables_of loaded
-  outcome-loaded Accepted = refl
-  outcome-loaded Malformed = refl
-  outcome-loaded Misplaced = refl
-  outcome-loaded Beyond = refl
-  outcome-loaded Full = refl
-  outcome-loaded Absent = refl
-  outcome-loaded Taken = refl
-  outcome-loaded Late = refl
+  outcome-loaded none = refl
+  outcome-loaded (some r) = refl
 
   refusal-loaded : refusal (holding b) (across m n) ≡ refusal (holding (loaded b.tables)) (across m n)
   unfolding loaded
@@ -88,7 +77,7 @@ module _ (b : Building) (m n : ℕ) where
   module _ (l : List ℕ) (d : decode l ≡ across m n) where
     across-loaded : (step (holding b) l).answer ≡ (step (holding (loaded b.tables)) l).answer
     unfolding step
-    across-loaded = rw d (outcome-loaded (refusal (holding b) (across m n)) ∙ ap (λ (r : Refusal). (outcome r (holding (loaded b.tables)) (across m n)).answer) refusal-loaded)
+    across-loaded = rw d (outcome-loaded (refusal (holding b) (across m n)) ∙ ap (λ (r : Option Refusal). (outcome r (holding (loaded b.tables)) (across m n)).answer) refusal-loaded)
 
     across-answer : accepts (holding b) l ≡ true → (step (holding b) l).answer ≡ across_of m n b.tables
     unfolding answer_to takes tables_of

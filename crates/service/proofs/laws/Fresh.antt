@@ -9,7 +9,7 @@ use Rattle.std.proofs.lemmas.Bool.{false≢true}
 use mathlib.Core.List.{List, [], ◌∷◌, ◌++◌, map, append_assoc, append-nil}
 use borrow.Author.Tests.{lt-leb, le-ltb, leb-false, ltb-false}
 use Rattle.std.proofs.Math.ListN.{length, length-append}
-use Rattle.whole.specs.Lists.{given, first, any}
+use Rattle.whole.specs.Lists.{given, first_given, any}
 use Rattle.whole.specs.laws.Bools.{or_left, or_right}
 use Rattle.whole.specs.All.{All, none, more}
 use Rattle.whole.specs.laws.Alls.{all_imp, any_none, none_any}
@@ -23,12 +23,13 @@ use Rattle.ring.specs.Polygon.{Polygon, one, entries_from}
 use Rattle.ring.specs.laws.Turned.{entries-one}
 use Rattle.building.specs.Tables.{Tables, Building, begun, with_point, with_polygon, entries, loaded}
 use Rattle.building.specs.laws.Loadable.{Apart, Loadable, RingOver, PolygonOver, apart-stands, entries_append, loadable_begun, loadable_point, loadable_polygon, loadable_moved, loadable_turned}
-use Rattle.service.specs.declared.Refusal.TheVariants.{Accepted, Malformed, Misplaced, Beyond, Full, Absent, Taken, Late}
+use Rattle.service.specs.declared.Refusal.TheVariants.{Malformed, Misplaced, Beyond, Full, Absent, Taken, Late}
 use Rattle.service.specs.Service.{State, nothing, loading, holding, tables_of, building_of, is_loading_of, is_holding_of, is_malformed, is_misplaced_of, is_late, is_absent, is_beyond_of, is_full, is_taken, refusal, takes, report_of, answer_to, Outcome, outcome, step, is_accepted_of, accepts}
 use Rattle.service.proofs.laws.Refusals.{refused_keeps, accepted_keeps, accepted_line}
 use Rattle.service.specs.Stream.{after}
 use Rattle.service.specs.Fresh.{point_line, polygon_line, load_lines, fresh_report}
 use Rattle.service.specs.Span.{is_correction}
+use Rattle.std.proofs.Math.Option as O
 
 -- ---- an accepted frame passed every test
 
@@ -42,9 +43,9 @@ pub record Passed (st : State) (f : Frame) : Type 0 where
   pub free : is_taken (tables_of st) f ≡ false
 
 rows : (a b c d e f g : Bool)
-    → is_accepted_of (first Accepted (given a Malformed ∷ given b Misplaced ∷ given c Late ∷ given d Absent ∷ given e Beyond ∷ given f Full ∷ given g Taken ∷ [])) ≡ true
+    → is_accepted_of (first_given (given a Malformed ∷ given b Misplaced ∷ given c Late ∷ given d Absent ∷ given e Beyond ∷ given f Full ∷ given g Taken ∷ [])) ≡ true
     → (a ≡ false) × (b ≡ false) × (c ≡ false) × (d ≡ false) × (e ≡ false) × (f ≡ false) × (g ≡ false)
-unfolding is_accepted_of first given
+unfolding is_accepted_of first_given given
 rows true b c d e f g h = absurd (false≢true h)
 rows false true c d e f g h = absurd (false≢true h)
 rows false false true d e f g h = absurd (false≢true h)
@@ -60,8 +61,8 @@ passed st f h =
     let r = rows (is_malformed f) (is_misplaced_of st f) (is_late (building_of st) f) (is_absent (tables_of st) f) (is_beyond_of f) (is_full (tables_of st) f) (is_taken (tables_of st) f) h in
     record { formed = r.0; placed = r.1; timely = r.2; known = r.3; within = r.4; room = r.5; free = r.6 }
 
-pub passes : (st : State) (f : Frame) → Passed st f → refusal st f ≡ Accepted
-unfolding refusal first given
+pub passes : (st : State) (f : Frame) → Passed st f → refusal st f ≡ O.none
+unfolding refusal first_given given
 passes st f p = rw (p.formed, p.placed, p.timely, p.known, p.within, p.room, p.free)
 
 -- ---- what is held can be loaded

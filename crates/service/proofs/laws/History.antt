@@ -3,7 +3,7 @@ use Rattle.std.specs.Prelude.{ℕ, ◌≡◌, refl, Bool, true, List, [], ◌∷
 use Rattle.std.proofs.Common.{sym, ap, ◌∙◌, subst, true≢false}
 use Rattle.std.proofs.Math.Bool.{false}
 use Rattle.std.proofs.lemmas.Bool.{false≢true}
-use Rattle.whole.specs.Lists.{given, first}
+use Rattle.whole.specs.Lists.{given, first_given}
 use Rattle.frame.specs.Frame.{Frame, begin, point, polygon, end_of_load, move, turn, question, across, broken, decode}
 use Rattle.building.specs.Tables.{Tables}
 use Rattle.building.specs.Corrections.{Correction, told, corrects}
@@ -17,7 +17,7 @@ use Rattle.building.specs.Corrections as C
 -- an accepted frame that is no begin, while a building is held
 takes_told : (t : Tables) (h : List Correction) (f : Frame) → is_accepted_of (refusal (holding (told t h)) f) ≡ true → is_begin f ≡ false
     → takes (holding (told t h)) f ≡ holding (told t (recorded f h))
-unfolding is_accepted_of refusal first given is_malformed is_misplaced_of is_loading_of is_holding_of is_begin takes building_of recorded corrects
+unfolding is_accepted_of refusal first_given given is_malformed is_misplaced_of is_loading_of is_holding_of is_begin takes building_of recorded corrects
 takes_told t h (begin tolerance) e n = absurd (true≢false n)
 takes_told t h (point x y z) e n = absurd (false≢true e)
 takes_told t h (polygon ring) e n = absurd (false≢true e)

@@ -1,26 +1,20 @@
 -- What an accepted line does, and what a refused one: it answers two digits and changes nothing, so striking it out changes no other answer.
 use Rattle.std.specs.Prelude.{ℕ, ◌≡◌, refl, Bool, true, false, List, [], ◌∷◌, ◌++◌}
 use Rattle.std.proofs.Common.{ap, ◌∙◌, subst, true≢false}
+use Rattle.std.proofs.Math.Option.{Option, none, some}
 use Rattle.std.proofs.lemmas.Bool.{false≢true}
 use Rattle.lines.specs.Lines.{lines, ended, joined}
 use Rattle.frame.specs.Frame.{Frame, decode}
 use Rattle.answer.specs.Answer.{plain}
 use Rattle.service.specs.declared.Refusal.{Refusal}
-use Rattle.service.specs.declared.Refusal.TheVariants.{Accepted, Malformed, Misplaced, Beyond, Full, Absent, Taken, Late}
 use Rattle.service.specs.Service.{State, nothing, refusal_number_of, refusal, Outcome, outcome, step, is_accepted_of, accepts, takes, answer_to}
 use Rattle.service.specs.Stream.{run, answers, after}
 use Rattle.service.specs.Strike.{struck, accepted_answers}
 
-pub refused-outcome : (r : Refusal) (st : State) (f : Frame) → is_accepted_of r ≡ false → outcome r st f ≡ record { next = st; answer = plain (refusal_number_of r) }
-unfolding is_accepted_of outcome
-refused-outcome Accepted st f e = absurd (true≢false e)
-refused-outcome Malformed st f e = refl
-refused-outcome Misplaced st f e = refl
-refused-outcome Beyond st f e = refl
-refused-outcome Full st f e = refl
-refused-outcome Absent st f e = refl
-refused-outcome Taken st f e = refl
-refused-outcome Late st f e = refl
+pub refused-outcome : (r : Option Refusal) (st : State) (f : Frame) → is_accepted_of r ≡ false → outcome r st f ≡ record { next = st; answer = plain (refusal_number_of r) }
+unfolding is_accepted_of outcome refusal_number_of
+refused-outcome none st f e = absurd (true≢false e)
+refused-outcome (some r) st f e = refl
 
 -- "Refused: the two digits below, and nothing held changes."
 pub refused-line : (st : State) (l : List ℕ) → accepts st l ≡ false → step st l ≡ record { next = st; answer = plain (refusal_number_of (refusal st (decode l))) }
@@ -30,16 +24,10 @@ refused-line st l e = refused-outcome (refusal st (decode l)) st (decode l) e
 pub refused_keeps : (st : State) (l : List ℕ) → accepts st l ≡ false → (step st l).next ≡ st
 refused_keeps st l e = ap (λ (o : Outcome). o.next) (refused-line st l e)
 
-pub accepted_outcome : (r : Refusal) (st : State) (f : Frame) → is_accepted_of r ≡ true → outcome r st f ≡ record { next = takes st f; answer = answer_to f (takes st f) }
+pub accepted_outcome : (r : Option Refusal) (st : State) (f : Frame) → is_accepted_of r ≡ true → outcome r st f ≡ record { next = takes st f; answer = answer_to f (takes st f) }
 unfolding is_accepted_of outcome
-accepted_outcome Accepted st f e = refl
-accepted_outcome Malformed st f e = absurd (false≢true e)
-accepted_outcome Misplaced st f e = absurd (false≢true e)
-accepted_outcome Beyond st f e = absurd (false≢true e)
-accepted_outcome Full st f e = absurd (false≢true e)
-accepted_outcome Absent st f e = absurd (false≢true e)
-accepted_outcome Taken st f e = absurd (false≢true e)
-accepted_outcome Late st f e = absurd (false≢true e)
+accepted_outcome none st f e = refl
+accepted_outcome (some r) st f e = absurd (false≢true e)
 
 pub accepted_line : (st : State) (l : List ℕ) → accepts st l ≡ true → step st l ≡ record { next = takes st (decode l); answer = answer_to (decode l) (takes st (decode l)) }
 unfolding accepts step

@@ -1,13 +1,13 @@
 -- No answer is longer than 33 bytes, so the answers fit the room asked for.
 use Rattle.std.specs.Prelude.{ℕ, ◌*◌, ◌≤◌, List, [], ◌∷◌, length, ℤ}
 use Rattle.std.proofs.Common.{arith, length-append}
+use Rattle.std.proofs.Math.Option.{Option, none, some}
 use Rattle.hexadecimal.specs.Hex.{digits}
 use Rattle.lines.specs.Lines.{lines, ended}
 use Rattle.frame.specs.Frame.{Frame, begin, point, polygon, end_of_load, move, turn, question, across, broken, decode}
 use Rattle.answer.specs.Answer.{plain, reported, told}
 use Rattle.hexadecimal.specs.laws.Back.{length_digits}
 use Rattle.service.specs.declared.Refusal.{Refusal}
-use Rattle.service.specs.declared.Refusal.TheVariants.{Accepted, Malformed, Misplaced, Beyond, Full, Absent, Taken, Late}
 use Rattle.service.specs.Service.{State, nothing, report_of, told_of, across_of, answer_to, outcome, refusal, step}
 use Rattle.service.specs.Stream.{run, answers}
 use Rattle.answer.specs.Answer as Answer
@@ -40,16 +40,10 @@ length_answer (question n) st = length-told _ _ _ _
 length_answer (across m n) st = length-across _ _ _
 length_answer broken st = length-plain 0
 
-length-outcome : (r : Refusal) (st : State) (f : Frame) → length (outcome r st f).answer ≤ 32
+length-outcome : (r : Option Refusal) (st : State) (f : Frame) → length (outcome r st f).answer ≤ 32
 unfolding outcome
-length-outcome Accepted st f = length_answer f _
-length-outcome Malformed st f = length-plain _
-length-outcome Misplaced st f = length-plain _
-length-outcome Beyond st f = length-plain _
-length-outcome Full st f = length-plain _
-length-outcome Absent st f = length-plain _
-length-outcome Taken st f = length-plain _
-length-outcome Late st f = length-plain _
+length-outcome none st f = length_answer f _
+length-outcome (some r) st f = length-plain _
 
 pub step-short : (st : State) (l : List ℕ) → length (ended (step st l).answer) ≤ 33
 unfolding step ended

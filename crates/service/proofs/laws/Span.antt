@@ -5,7 +5,8 @@ use Rattle.std.proofs.Math.Path.{refl, sym, ap, subst}
 use Rattle.std.proofs.lemmas.Bool.{false≢true}
 use mathlib.Core.List.{List, [], ◌∷◌, ◌++◌, map, append_assoc}
 use Rattle.std.proofs.Math.ListN.{get_or}
-use Rattle.whole.specs.Lists.{given, first}
+use Rattle.std.proofs.Math.Option.{some}
+use Rattle.whole.specs.Lists.{given, first_given}
 use Rattle.frame.specs.Frame.{Frame, begin, point, polygon, end_of_load, move, turn, question, across, broken, decode}
 use Rattle.frame.specs.Encode.{encode}
 use Rattle.answer.specs.Answer.{told}
@@ -108,13 +109,13 @@ module _ (before : List (List ℕ)) (end : List ℕ) (since : List (List ℕ)) (
 
 -- ---- late corrections
 
-late_held : (b : Building) {f : Frame} {number : ℕ} → Numbered f number → number ≤ b.last → refusal (holding b) f ≡ Late
-unfolding first given
+late_held : (b : Building) {f : Frame} {number : ℕ} → Numbered f number → number ≤ b.last → refusal (holding b) f ≡ some Late
+unfolding first_given given
 late_held b (a_move {number = number} {n = n} {x = x} {y = y} {z = z}) h = of_move_lem b number n x y z ∙ (rw (le-leb number b.last h))
 late_held b (a_turn {number = number} {n = n}) h = of_turn_lem b number n ∙ (rw (le-leb number b.last h))
 
 pub late_correction : (before : List (List ℕ)) (end : List ℕ) (since : List (List ℕ)) → Span before end since → (l : List ℕ) (number : ℕ) → Numbered (decode l) number
-    → number ≤ C.last_number (corrections_of before since) → refusal (held before end since) (decode l) ≡ Late
+    → number ≤ C.last_number (corrections_of before since) → refusal (held before end since) (decode l) ≡ some Late
 unfolding C.told
 late_correction before end since s l number k h =
     ap (λ (st : State). refusal st (decode l)) (held-told before end since s) ∙ late_held (C.told (loaded_by before) (corrections_of before since)) k h

@@ -1,6 +1,8 @@
 -- The loops over consecutive entries: how far they have come, and what they have summed.
-use Rattle.std.specs.Prelude.{ℕ, zero, suc, ◌+◌, ◌*◌, ◌≤◌, ◌<◌, ◌^◌, ◌≡◌, refl, List, [], ◌∷◌, map, true, ◌&&◌, T, ltb, length, get_or, ℤ, ◌+ℤ◌}
-use Rattle.std.proofs.Common.{arith, sym, ap, subst}
+use Rattle.std.specs.Prelude.{ℕ, zero, suc, ◌+◌, ◌-◌, ◌*◌, ◌≤◌, ◌<◌, ◌^◌, ◌≡◌, refl, List, [], ◌∷◌, map, true, ◌&&◌, T, ltb, length, take, drop, get_or, ℤ, ◌+ℤ◌}
+use Rattle.std.proofs.Common.{arith, sym, ap, subst, length-drop}
+use Rattle.std.proofs.lemmas.List.{take_rest}
+use Rattle.std.proofs.lemmas.Grind.{get_or_after_one}
 use Rattle.std.specs.Int.{w64}
 use mir.Val.{to_z, of_z, hbits}
 use Rattle.whole.specs.Lists.{steps_from, sum_of}
@@ -10,7 +12,23 @@ use Rattle.whole.specs.laws.Mach.{Leaf, whole, bits_of, yields}
 use Rattle.whole.specs.laws.Sum.{next, Acc, acc_step, acc_small}
 use Rattle.space.specs.held.Points.{Known}
 
--- ---- how far a loop has come: entry i of n is next, and last was before it
+-- ---- the entries after the first, as a slice takes them
+abbrev pub rest : List ℕ → List ℕ
+rest ring = take (length ring - 1) (drop 1 ring)
+
+pub rest_is : (ring : List ℕ) → rest ring ≡ drop 1 ring
+rest_is ring = take_rest ring 1
+
+-- a ring of known points has some after its first
+pub rest_known : {ring : List ℕ} → Known ring → Known (rest ring)
+rest_known {ring} k =
+    subst Known (sym (rest_is ring))
+    (record {
+      few = omega (arith, length-drop 1 ring, k.few);
+      each = λ i h. subst (λ (p : ℕ). p < 512) (sym (get_or_after_one ring i 0)) (k.each (1 + i) (omega (arith, length-drop 1 ring)));
+    })
+
+-- ---- how far a loop by index has come: entry i of n is next, and last was before it
 pub record Going (ring : List ℕ) (n first last i : ℕ) : Type 0 where
   pub all : n ≡ length ring
   pub upto : i ≤ n
@@ -36,6 +54,13 @@ going_next {ring} {n} {first} {last} {i} k g h =
       last_known = k.each i (omega (arith, g.all));
     }
 
+-- it is within the ring, and few have been passed
+pub going_few : {ring : List ℕ} {n first last i : ℕ} → Known ring → Going ring n first last i → i ≤ 128
+going_few k g = omega (arith, k.few, g.all, g.upto)
+
+pub going_in : {ring : List ℕ} {n first last i : ℕ} → Going ring n first last i → i < n → i < length ring
+going_in g l = omega (arith, g.all)
+
 -- ---- one sum: what is summed so far and what is next, as the machine sees them
 abbrev pub two : {f : ℕ → ℕ → ℤ} {total : ℤ} {l : List ℕ} {p i m : ℕ} (b : ℕ) → T (ltb m (2 ^ hbits w64)) → Acc f m total l p i (to_z w64 b) → i ≤ 128 → {r : ℤ} → Small m r → List Leaf
 two b t a le s = bits_of w64 b refl (acc_small 128 a le) ∷ whole w64 t s ∷ []
@@ -54,10 +79,3 @@ pub steps_next : {A : Type 0} (g : ℕ → A) (f : A → A → ℤ) (p : ℕ) (l
 unfolding sum_of steps_from next
 steps_next g f p [] = refl
 steps_next g f p (q ∷ l) = ap (λ (z : ℤ). f (g p) (g q) +ℤ z) (steps_next g f q l)
-
--- it is within the ring, and few have been passed
-pub going_few : {ring : List ℕ} {n first last i : ℕ} → Known ring → Going ring n first last i → i ≤ 128
-going_few k g = omega (arith, k.few, g.all, g.upto)
-
-pub going_in : {ring : List ℕ} {n first last i : ℕ} → Going ring n first last i → i < n → i < length ring
-going_in g l = omega (arith, g.all)

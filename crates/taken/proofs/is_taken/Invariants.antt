@@ -3,8 +3,8 @@ use Rattle.places.specs.held.Places.{point3}
 use Rattle.taken.specs.laws.Chains.{Walking}
 use Rattle.taken.proofs.is_taken.Given as goal
 
-abbrev pub invariant-loop-k : goal.invariant-loop-k
-invariant-loop-k l = Walking l.points l.n (point3 l.x l.y l.z) l.k
+abbrev pub invariant-loop-i : goal.invariant-loop-i
+invariant-loop-i l = Walking l.points l.n (point3 l.x l.y l.z) l.k
 
-abbrev pub decreases-loop-k : goal.decreases-loop-k
-decreases-loop-k l = l.k
+abbrev pub decreases-loop-i : goal.decreases-loop-i
+decreases-loop-i l = l.k

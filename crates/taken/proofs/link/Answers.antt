@@ -1,8 +1,6 @@
 -- `taken::link` meets its contract: two stores.
 use native.Mathlib.Omega.{arith}
-use Rattle.places.specs.held.Places.{point3}
-use Rattle.taken.specs.laws.Buckets.{told_below, told-bucket}
-use Rattle.taken.specs.laws.Chains.{linked_in}
+use Rattle.taken.specs.laws.Buckets.{told_below}
 use Rattle.taken.proofs.link.Goals as goal
 
 pub offset_bounds-table-b : goal.offset_bounds-table-b
@@ -16,7 +14,3 @@ offset_bounds-table-b-2 c = record { fits = omega (arith, told_below _ c.bucket-
 
 pub bounds-table-b-2 : goal.bounds-table-b-2
 bounds-table-b-2 c = omega (arith, told_below _ c.bucket-b.ensures)
-
-pub returns : goal.returns
-returns c = let a = c.args in
-    linked_in a.table.now a.n (point3 a.x a.y a.z) c.bucket-b.result (told-bucket a.x a.y a.z c.requires.z_value c.bucket-b.ensures)

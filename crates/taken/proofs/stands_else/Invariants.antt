@@ -1,5 +1,4 @@
 -- `taken::stands_else` meets its contract. The loop keeps: what is left of the points tells of them all.
-use Prim.Native.Nat.{◌-◌, ◌≤◌}
 use mathlib.Core.Path.{◌≡◌}
 use lib.ListN.{take, drop}
 use Rattle.space.specs.held.Points.{points_of}
@@ -9,7 +8,4 @@ use Rattle.taken.specs.laws.Else.{else_from}
 use Rattle.taken.proofs.stands_else.Given as goal
 
 abbrev pub invariant-loop-i : goal.invariant-loop-i
-invariant-loop-i l = (l.i ≤ l.count) × (else_from l.i l.n (point3 l.x l.y l.z) (drop l.i (take l.count (points_of l.points))) ≡ stands_else_of l.n (point3 l.x l.y l.z) (take l.count (points_of l.points)))
-
-abbrev pub decreases-loop-i : goal.decreases-loop-i
-decreases-loop-i l = l.count - l.i
+invariant-loop-i l = else_from l.i l.n (point3 l.x l.y l.z) (drop l.i (take l.count (points_of l.points))) ≡ stands_else_of l.n (point3 l.x l.y l.z) (take l.count (points_of l.points))

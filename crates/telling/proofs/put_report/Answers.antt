@@ -1,7 +1,7 @@
 -- `telling::put_report` meets its contract.
 use Rattle.telling.specs.laws.Told.{wrote_report}
 use Rattle.report.specs.laws.Told.{kept-faults, kept-volume, kept-summable}
-use Rattle.building.specs.held.Holds.{held_tables}
+use Rattle.building.specs.held.Holds.{tables_in}
 use Rattle.whole.specs.laws.Size.{call_is}
 use mir.Syntax.{w64}
 use mathlib.Core.Path.{◌∙◌}
@@ -17,7 +17,7 @@ verdict_of-v-requires c = let k = c.requires.loaded in
 pub returns : goal.returns
 returns c = let a = c.args in
     let k = c.requires.loaded in
-    wrote_report (held_tables a.points.now a.entries.now a.starts.now a.firsts.now a.s) c.verdict_of-v.result c.check_number-check.result c.element_a-a.result c.element_b-b.result c.faults_of-faults.result _
+    wrote_report (tables_in a.arrays.now a.s) c.verdict_of-v.result c.check_number-check.result c.element_a-a.result c.element_b-b.result c.faults_of-faults.result _
     c.verdict_of-v.ensures c.check_number-check.ensures c.element_a-a.ensures c.element_b-b.ensures
     (c.faults_of-faults.ensures ∙ kept-faults k.0 k.1.found)
     (call_is w64 c.six_volume-volume.type_inv (c.six_volume-volume.ensures ∙ kept-volume k.0 k.1.summed))

@@ -1,27 +1,26 @@
 -- What is left to show of `six_volume`.
-use mathlib.Core.Path.{◌≡◌, refl, ap, ◌∙◌}
-use native.Mathlib.Omega.{arith}
-use borrow.Author.Rules.{rules}
-use mir.Syntax.{w64}
-use mir.Facts.{to_z-of_z}
+use Rattle.std.specs.Prelude.{ℕ, ◌<◌, refl, List, length, take, ℤ, pos}
+use Rattle.std.proofs.Common.{arith, ◌∙◌, get_or-take, length-take-le, to_z-of_z}
+use Rattle.std.specs.Int.{w64}
 use Rattle.whole.specs.Lists.{sum_of}
-use Rattle.totals.specs.held.Scans.{sum_up_to}
+use Rattle.totals.specs.held.Scans.{Summable}
 use Rattle.totals.specs.laws.Scans.{sum_fits, sum-next}
 use Rattle.totals.proofs.six_volume.Goals as goal
 
-pub loop-i-init : goal.loop-i-init
+pub loop-part-init : goal.loop-part-init
 unfolding sum_of
-loop-i-init c = (search rules, refl)
+loop-part-init c = refl
+
+-- a part of the first n is one of all
+inside : (parts : List ℤ) (n i : ℕ) → Summable parts n → i < length (take n parts) → i < n
+inside parts n i s h = let e = length-take-le n parts (omega (arith, s.few, s.size)) in omega arith
 
 pub overflow_add-total : goal.overflow_add-total
-overflow_add-total c = let l = c.loop-i in
-    sum_fits c.args.parts.now c.args.n l.i c.requires c.loop-i-test.true _ _ l.invariant.1 (to_z-of_z {w = w64} (record { sfits = omega arith }))
+overflow_add-total c = let l = c.loop-part in
+    let h = inside c.args.parts.now c.args.n l.part-index c.requires c.loop-part-test.true in
+    sum_fits c.args.parts.now c.args.n l.part-index c.requires h _ _ l.invariant (to_z-of_z {w = w64} (record { sfits = omega arith }) ∙ get_or-take c.args.n c.args.parts.now l.part-index (pos 0) h)
 
-pub loop-i-preserved : goal.loop-i-preserved
-loop-i-preserved c = let l = c.loop-i in
-    (search rules, sum-next c.args.parts.now c.args.n l.i c.requires c.loop-i-test.true _ _ l.invariant.1 (to_z-of_z {w = w64} (record { sfits = omega arith })))
-
-pub returns : goal.returns
-returns c = let l = c.loop-i in
-    let e : l.i ≡ c.args.n = omega arith in
-    l.invariant.1 ∙ ap (sum_up_to c.args.parts.now) e
+pub loop-part-preserved : goal.loop-part-preserved
+loop-part-preserved c = let l = c.loop-part in
+    let h = inside c.args.parts.now c.args.n l.part-index c.requires c.loop-part-test.true in
+    sum-next c.args.parts.now c.args.n l.part-index c.requires h _ _ l.invariant (to_z-of_z {w = w64} (record { sfits = omega arith }) ∙ get_or-take c.args.n c.args.parts.now l.part-index (pos 0) h)

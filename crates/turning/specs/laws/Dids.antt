@@ -10,10 +10,11 @@ use Rattle.frame.specs.Frame.{turn}
 use Rattle.answer.specs.held.Wrote.{Wrote}
 use Rattle.building.specs.declared.Scalars.{Scalars}
 use Rattle.building.specs.Tables.{turned}
-use Rattle.building.specs.held.Holds.{Arrays, held_tables, held_building}
+use Rattle.building.specs.declared.Arrays.{Arrays}
+use Rattle.building.specs.held.Holds.{tables_in, held_tables, held_building}
 use Rattle.building.specs.laws.Load.{tables-polygons}
-use Rattle.service.specs.declared.Refusal.{Refusal}
-use Rattle.service.specs.Service.{State, tables_of, building_of, is_misplaced_of, is_absent, refusal, takes, report_of, answer_to, is_accepted_of}
+use Rattle.std.proofs.Math.Option.{none}
+use Rattle.service.specs.Service.{State, tables_of, building_of, is_misplaced_of, is_absent, refusal, takes, report_of, answer_to}
 use Rattle.service.proofs.laws.Fresh.{Passed}
 use Rattle.modes.specs.declared.Mode.TheVariants.{Holding}
 use Rattle.desk.specs.declared.Desk.{Desk}
@@ -23,9 +24,9 @@ use Rattle.desk.specs.laws.Rows.{tables, service-holds}
 use Rattle.desk.specs.laws.Dids.{passed_row, holding_mode, did_report}
 use Rattle.building.specs.held.Holds as B
 
-module _ (a : Arrays) (d : Desk) (v : Valid a d) (number p : ℕ) (r : Refusal) (row : r ≡ refusal (service a d) (turn number p)) (t : is_accepted_of r ≡ true) where
+module _ (a : Arrays) (d : Desk) (v : Valid a d) (number p : ℕ) (row : refusal (service a d) (turn number p) ≡ none) where
   turn_passed : Passed (service a d) (turn number p)
-  turn_passed = passed_row (service a d) (turn number p) r row t
+  turn_passed = passed_row (service a d) (turn number p) row
 
   pub turn_holds : holds d.mode ≡ true
   unfolding is_misplaced_of service
@@ -38,7 +39,7 @@ module _ (a : Arrays) (d : Desk) (v : Valid a d) (number p : ℕ) (r : Refusal) 
       omega (arith, leb-false (length (tables a d).polygons) p k, tables-polygons v.loaded)
 
   pub did_turn : (a' : Arrays) (s : Scalars) → B.Did (turned number p (held_building a d.held)) a' s
-      → (room room' : List ℕ) (at : ℕ) → Wrote (ended (report_of (held_tables a'.points a'.entries a'.starts a'.firsts s))) room d.at room' at
+      → (room room' : List ℕ) (at : ℕ) → Wrote (ended (report_of (tables_in a' s))) room d.at room' at
       → Did (does (service a d) (turn number p)) room d.at a' room' (record { mode = Holding; held = s; at = at })
   unfolding takes answer_to tables_of building_of
-  did_turn = did_report a d (turn number p) r row t (turned number p (held_building a d.held)) (ap (λ (st : State). takes st (turn number p)) (service-holds a d turn_holds)) refl
+  did_turn = did_report a d (turn number p) row (turned number p (held_building a d.held)) (ap (λ (st : State). takes st (turn number p)) (service-holds a d turn_holds)) refl

@@ -1,13 +1,8 @@
 -- `turns::renew_finding` meets its contract. Without a position the finding is what it was; with one its number is, and the code for its check tells where.
-use Prim.Native.Nat.{◌%◌, ◌≤◌}
-use native.Mathlib.Omega.{arith}
-use mathlib.Core.Path.{◌≡◌, sym, ap, ◌∙◌}
-use mathlib.Core.Bool.{true}
-use lib.ListN.{get_or, set}
-use lib.Seq.{set-get_or}
-use borrow.Author.Rules.{rules}
+use Rattle.std.proofs.Common.{◌≡◌, ◌≤◌, ◌%◌, ℕ, List, true, get_or, set, sym, ap, ◌∙◌, arith}
+use Rattle.std.proofs.lemmas.List.{set-get_or}
 use Rattle.space.specs.held.Points.{points_of}
-use Rattle.polygon.specs.Ring.{finding, finding_number_of}
+use Rattle.polygon.specs.Ring.{finding, finding_number_of, finding_position_of}
 use Rattle.polygon.specs.held.Position.{has_position_of}
 use Rattle.polygon.specs.laws.Position.{position_few}
 use Rattle.ring.specs.held.Rings.{ring_at}
@@ -15,31 +10,36 @@ use Rattle.turns.specs.laws.Turned.{turned-number, turned-placed, turned_kept, t
 use Rattle.turns.proofs.renew_finding.Goals as goal
 use Rattle.turns.proofs.renew_finding.Goals.{After-position_of-at, Else-not-has_position, Start}
 
-number : (c : Start) → get_or c.args.findings.now c.args.p 0 % 16 ≡ finding_number_of ((finding c.args.tolerance (points_of c.args.points.now) (ring_at c.args.entries.now c.args.starts.now c.args.p)))
-number c = turned-number c.args.tolerance (points_of c.args.points.now) (ring_at c.args.entries.now c.args.starts.now c.args.p) c.requires.findings_len.1
+abbrev turned : Start → List ℕ
+turned c = ring_at c.args.rings.now.entries c.args.rings.now.starts c.args.p
 
-placed : (c : Else-not-has_position) → has_position_of ((finding c.args.tolerance (points_of c.args.points.now) (ring_at c.args.entries.now c.args.starts.now c.args.p))) ≡ true
-placed c = sym (turned-placed c.args.tolerance (points_of c.args.points.now) (ring_at c.args.entries.now c.args.starts.now c.args.p) c.requires.findings_len.1) ∙ sym c.has_position.ensures ∙ c.if-not-has_position.false
+number : (c : Start) → get_or c.args.findings.now c.args.p 0 % 16 ≡ finding_number_of (finding c.args.tolerance (points_of c.args.points.now.flat) (turned c))
+number c = turned-number c.args.tolerance (points_of c.args.points.now.flat) (turned c) c.requires.finding_was
+
+placed : (c : Else-not-has_position) → has_position_of (finding c.args.tolerance (points_of c.args.points.now.flat) (ring_at c.args.rings.now.entries c.args.rings.now.starts c.args.p)) ≡ true
+placed c = sym (turned-placed c.args.tolerance (points_of c.args.points.now.flat) _ c.requires.finding_was) ∙ sym c.has_position.ensures ∙ c.if-not-has_position.false
+
+place : (c : After-position_of-at) → c.position_of-at.result ≡ finding_position_of (finding c.args.tolerance (points_of c.args.points.now.flat) (ring_at c.args.rings.now.entries c.args.rings.now.starts c.args.p))
+place c = c.position_of-at.ensures ∙ ap (λ (l : List ℕ). finding_position_of (finding c.args.tolerance (points_of c.args.points.now.flat) l)) c.ring-ring.ensures
 
 few : (c : After-position_of-at) → c.position_of-at.result ≤ 128
-few c = omega (arith, c.position_of-at.ensures, position_few c.args.tolerance (points_of c.args.points.now) (ring_at c.args.entries.now c.args.starts.now c.args.p), c.requires.ring.known.few)
+few c = omega (arith, place c, position_few c.args.tolerance (points_of c.args.points.now.flat) (ring_at c.args.rings.now.entries c.args.rings.now.starts c.args.p), c.requires.ring.known.few)
 
 pub returns-then-not-has_position : goal.returns-then-not-has_position
 returns-then-not-has_position c = let a = c.args in
-    sym (ap (set a.findings.now a.p) (sym (turned_kept a.tolerance (points_of c.args.points.now) (ring_at c.args.entries.now c.args.starts.now c.args.p) c.requires.findings_len.1 (sym c.has_position.ensures ∙ c.if-not-has_position.true))) ∙ set-get_or a.findings.now a.p 0)
+    sym (ap (set a.findings.now a.p) (sym (turned_kept a.tolerance (points_of a.points.now.flat) _ c.requires.finding_was (sym c.has_position.ensures ∙ c.if-not-has_position.true))) ∙ set-get_or a.findings.now a.p 0)
 
 pub position_of-at-requires : goal.position_of-at-requires
-position_of-at-requires c = record { coords = c.requires.coords; known = c.requires.ring.known; tolerance_bound = c.requires.tolerance_bound; number_value = (number ((goal.at.position_of-at-requires c).Start), placed ((goal.at.position_of-at-requires c).Else-not-has_position)) }
+position_of-at-requires c = let e = c.ring-ring.ensures in
+    record {
+      known = rw e c.requires.ring.known;
+      tolerance_bound = c.requires.tolerance_bound;
+      number_value = rw e (number ((goal.at.position_of-at-requires c).Start), placed ((goal.at.position_of-at-requires c).Else-not-has_position));
+    }
 
-pub overflow_cast-findings : goal.overflow_cast-findings
-overflow_cast-findings c = let h = few c in search rules
-
-pub overflow_mul-findings : goal.overflow_mul-findings
-overflow_mul-findings c = let h = few c in search rules
-
-pub overflow_add-findings : goal.overflow_add-findings
-overflow_add-findings c = let h = few c in search rules
+pub kept_at-requires : goal.kept_at-requires
+kept_at-requires c = let h = few c in (omega arith, omega (arith, h))
 
 pub returns : goal.returns
 returns c = let a = c.args in
-    ap (set a.findings.now a.p) (turned_found_at a.tolerance (points_of c.args.points.now) (ring_at c.args.entries.now c.args.starts.now c.args.p) c.requires.findings_len.1 c.position_of-at.ensures)
+    ap (set a.findings.now a.p) (c.kept_at.ensures ∙ turned_found_at a.tolerance (points_of a.points.now.flat) _ c.requires.finding_was (place ((goal.at.returns c).After-position_of-at)))

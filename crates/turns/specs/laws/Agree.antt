@@ -2,8 +2,9 @@
 use Rattle.std.specs.Prelude.{ℕ, ◌≡◌, refl, List, ℤ}
 use Rattle.std.proofs.Common.{sym, ap, ◌∙◌}
 use Rattle.whole.specs.laws.Agree.{agree}
+use Rattle.building.specs.declared.Arrays.{Arrays}
 use Rattle.building.specs.declared.Scalars.{Scalars}
-use Rattle.building.specs.held.Holds.{Arrays, corrected}
+use Rattle.building.specs.held.Holds.{corrected}
 use Rattle.building.specs.laws.Agree.{shown_agrees}
 use Rattle.turns.specs.held.Writes.{TurnWrites}
 

@@ -1,12 +1,13 @@
--- A part of a list reversed in its place, and one element of a list told by its index stored anew.
+-- A part of a list reversed in its place, a part written there, and one element of a list told by its index stored anew.
 use Prim.Native.Nat.{ℕ, zero, suc, ◌+◌, ◌-◌, ◌≤◌, ◌<◌}
 use Rattle.std.specs.Prelude.{◌≡◌, refl, ltb, get_or, take, drop}
-use Rattle.std.proofs.Common.{sym, ap, ◌∙◌, arith, add-one, length-set, length-drop, drop-cons, get_or-drop, take-suc}
+use Rattle.std.proofs.Common.{append_assoc, sym, ap, ◌∙◌, arith, add-one, length-set, length-drop, drop-cons, get_or-drop, take-suc}
 use mathlib.Core.List.{List, [], ◌∷◌, ◌++◌, reverse, reverse-append}
 use borrow.Author.Tests.{ltb-true, ltb-false}
 use Rattle.std.proofs.Math.ListN.{length, set}
-use Rattle.std.proofs.lemmas.List.{length-reverse, set_at, set-append_left, set_comm, set-get_or}
-use Rattle.std.proofs.lemmas.List.Edits.{sets}
+use Rattle.std.proofs.lemmas.List.{drop-drop, length-reverse, set_at, set-append_left, set_comm, set-get_or}
+use Rattle.std.proofs.lemmas.List.Edits.{sets, sets-eq}
+use borrow.Rule.Slice.PartMut.{put_mid}
 use Rattle.whole.specs.laws.Stores.{sets_append, cases}
 use Rattle.whole.specs.Lists.{tab}
 use Rattle.whole.specs.laws.Places.{tab-length}
@@ -104,3 +105,8 @@ module _ (l₀ : List ℕ) (from to : ℕ) (l : List ℕ) (i j : ℕ) (r : Rever
 
   pub reversing_done : j ≤ i + 1 → l ≡ sets l₀ from (reverse (cut from to l₀))
   reversing_done h = sym (swap_done l i j 0 r.apart h (omega (arith, r.size, r.inside))) ∙ r.rest
+
+module _ {A : Type 0} where
+  -- a part of the list after a write to it
+  pub put_mid-sets : (l ys vs : List A) (a k : ℕ) → ys ≡ vs → k ≡ length vs → a + k ≤ length l → put_mid a k l ys ≡ sets l a vs
+  put_mid-sets l ys vs a k e n h = let w : a + length vs ≤ length l = omega arith in rw (e, n, sets-eq vs l a w, drop-drop (length vs) a l, append_assoc)

@@ -28,9 +28,10 @@ use Rattle.inner.specs.Finding as Inner
 use Rattle.inner.specs.laws.One.{one_ring, one-part}
 use Rattle.holes.specs.held.Rings.{Ring}
 use Rattle.shell.specs.laws.EdgedLaws.{listed-turned, edged_turned}
+use Rattle.building.specs.declared.Arrays.{Arrays}
 use Rattle.building.specs.declared.Scalars.{Scalars}
 use Rattle.building.specs.Tables.{turned}
-use Rattle.building.specs.held.Holds.{is_broken, Arrays, arrays, held_tables, held_building, Loaded, Found, Summed, Broken, Shown, Held, Did}
+use Rattle.building.specs.held.Holds.{is_broken, held_tables, held_building, Loaded, Found, Summed, Broken, Shown, Held, Did}
 use Rattle.polygon.specs.held.Findings.{kept_finding, is_placed}
 use Rattle.building.specs.laws.Findings.{broken_turned, kept_number}
 use Rattle.polygon.specs.laws.Position.{placed_is}
@@ -161,38 +162,39 @@ module _ {points : List ℤ} {entries starts firsts : List ℕ} {s : Scalars} (l
             (λ t. ap (λ (r : Polygon). is_broken r.outer) (polygon_other ld p h q b.below (eqb-false q p t)) ∙ b.broken);
       }
 
-module _ (a : Arrays) (s : Scalars) (hd : Held a s) (number p : ℕ) (h : p < s.polygons) where
+module _ (a a' : Arrays) (s : Scalars) (hd : Held a s) (number p : ℕ) (h : p < s.polygons) where
   -- the turned ring, its finding, its part, its stamp and its flag make the building that a turn makes
-  pub did_turned : {entries' stamps' findings' : List ℕ} {parts' : List ℤ} {turned' : List ℕ}
-      → entries' ≡ turned_entries a.entries a.starts p
-      → stamps' ≡ set a.stamps p number
-      → findings' ≡ set a.findings p (kept_finding (finding s.tolerance (points_of a.points) (reverse (ring_at a.entries a.starts p))))
-      → parts' ≡ set a.parts p (part (points_of a.points) (reverse (ring_at a.entries a.starts p)))
-      → turned' ≡ flipped a.turned p
-      → {shape' : Shape} → Shown a.table s.edges turned' s.fixed shape'
-      → Did (turned number p (held_building a s)) (arrays a.points entries' a.starts a.firsts stamps' findings' parts' a.table turned') (record { tolerance = s.tolerance; points = s.points; polygons = s.polygons; last = number; edges = s.edges; fixed = s.fixed; shape = shape' })
+  pub did_turned : a'.points.flat ≡ a.points.flat
+      → a'.rings.entries ≡ turned_entries a.rings.entries a.rings.starts p
+      → a'.rings.starts ≡ a.rings.starts
+      → a'.rings.firsts ≡ a.rings.firsts
+      → a'.stamps ≡ set a.stamps p number
+      → a'.findings ≡ set a.findings p (kept_finding (finding s.tolerance (points_of a.points.flat) (reverse (ring_at a.rings.entries a.rings.starts p))))
+      → a'.parts ≡ set a.parts p (part (points_of a.points.flat) (reverse (ring_at a.rings.entries a.rings.starts p)))
+      → a'.table ≡ a.table
+      → a'.turned ≡ flipped a.turned p
+      → {shape' : Shape} → Shown a.table s.edges a'.turned s.fixed shape'
+      → Did (turned number p (held_building a s)) a' (record { tolerance = s.tolerance; points = s.points; polygons = s.polygons; last = number; edges = s.edges; fixed = s.fixed; shape = shape' })
   unfolding held_building held_tables turned
-  did_turned e₁ e₂ e₅ e₃ e₄ {shape'} sh =
+  did_turned pt es st ft ss fs ps tb ts sh =
       let ld = hd.loaded in
       let kp = hd.kept in
       let few : p < 256 = omega (arith, ld.layout.few) in
       let lt = turned-loaded ld p h in
       let b : p < length a.turned = omega (arith, kp.turned-size) in
-      let sh' : Shown a.table s.edges (flipped a.turned p) s.fixed shape' = rw e₄ at sh in
-      rw (e₁, e₂, e₅, e₃, e₄)
-      (record {
+      record {
         held = record {
-          loaded = record { coords = lt.coords; first = lt.first; layout = lt.layout; ones = lt.ones; entered = lt.entered; tolerant = lt.tolerant; short = lt.short };
-          stamped = length-set a.stamps p number ∙ hd.stamped;
+          loaded = rw (pt, es, st, ft) (record { coords = lt.coords; first = lt.first; layout = lt.layout; ones = lt.ones; entered = lt.entered; tolerant = lt.tolerant; short = lt.short });
+          stamped = ap length ss ∙ length-set a.stamps p number ∙ hd.stamped;
           kept = record {
-            found = record { size = (turned_found ld p h kp.found).size; each = (turned_found ld p h kp.found).each };
-            summed = record { size = (turned_summed ld p h kp.summed).size; each = (turned_summed ld p h kp.summed).each };
-            table-size = kp.table-size;
-            turned-size = length-set a.turned p (1 - get_or a.turned p 0) ∙ kp.turned-size;
-            listed = rw (turned_polygons_lem ld p h) (listed-turned (polygons a.entries a.starts a.firsts s.polygons) a.table s.edges a.turned p b kp.listed);
-            shaped = ⊎_elim (λ br. inl (turned_broken ld p h br)) (λ ed. inr (rw (turned_polygons_lem ld p h) (edged_turned (polygons a.entries a.starts a.firsts s.polygons) a.table s.edges a.turned s.fixed p b ed))) kp.shaped;
-            shown = sh';
+            found = rw (pt, es, st, ft, fs) (record { size = (turned_found ld p h kp.found).size; each = (turned_found ld p h kp.found).each });
+            summed = rw (pt, es, st, ft, ps) (record { size = (turned_summed ld p h kp.summed).size; each = (turned_summed ld p h kp.summed).each });
+            table-size = ap length tb ∙ kp.table-size;
+            turned-size = ap length ts ∙ length-set a.turned p (1 - get_or a.turned p 0) ∙ kp.turned-size;
+            listed = rw (es, st, ft, tb, ts, turned_polygons_lem ld p h) (listed-turned (polygons a.rings.entries a.rings.starts a.rings.firsts s.polygons) a.table s.edges a.turned p b kp.listed);
+            shaped = rw (es, st, ft, tb, ts) (⊎_elim (λ br. inl (turned_broken ld p h br)) (λ ed. inr (rw (turned_polygons_lem ld p h) (edged_turned (polygons a.rings.entries a.rings.starts a.rings.firsts s.polygons) a.table s.edges a.turned s.fixed p b ed))) kp.shaped);
+            shown = rw tb sh;
           };
         };
-        is = rw (turned_polygons_lem ld p h, take-set-lt s.polygons a.stamps p number h);
-      })
+        is = rw (pt, es, st, ft, ss, turned_polygons_lem ld p h, take-set-lt s.polygons a.stamps p number h);
+      }

@@ -1,5 +1,7 @@
 -- What a word of the edge table holds, and where the other word of its pair stands.
 use Rattle.std.specs.Prelude.{ℕ, zero, suc, ◌+◌, ◌/◌, ◌%◌, ◌≤◌, ◌<◌, ◌≡◌}
+use Rattle.words.specs.declared.Node.{Node}
+use Rattle.words.specs.declared.Node.TheVariants.{Polygon, Smaller, Larger}
 
 -- a word holds the edge, the polygon, the entry where the step starts, the one where it ends, and the direction: 0 from the smaller
 -- number to the larger
@@ -34,6 +36,12 @@ abbrev pub node_of : ℕ → ℕ → ℕ
 node_of zero w = poly_from w
 node_of (suc zero) w = low_of w
 node_of (suc (suc n)) w = high_of w
+
+-- the number of each of the three
+abbrev pub number_of : Node → ℕ
+number_of Polygon = 0
+number_of Smaller = 1
+number_of Larger = 2
 
 -- where the other word of the i-th of n words stands: pairs begin at even places, and the last word may have none
 pub record Mate (n i r : ℕ) : Type 0 where

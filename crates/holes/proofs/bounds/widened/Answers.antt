@@ -1,16 +1,16 @@
 -- `holes::bounds::widened` meets its contract. Number by number.
-use mathlib.Core.Bool.{true, false}
 use mathlib.Core.Path.{◌∙◌, ap₂}
 use mir.Syntax.{w64}
 use Rattle.whole.specs.laws.Size.{call_is, small_back}
-use Rattle.holes.specs.held.Boxes.{further}
+use Rattle.plane.specs.held.Edges.{least, most}
 use Rattle.holes.proofs.bounds.widened.Goals as goal
 
 pub returns : goal.returns
-returns c = let h = c.requires in
+returns c = let b = c.requires.0 in
+    let p = c.requires.1 in
     record {
-      lu = call_is w64 c.further-lu.type_inv (c.further-lu.ensures ∙ ap₂ (further false) (small_back w64 tt h.0.lu) (small_back w64 tt h.1.on_u));
-      hu = call_is w64 c.further-hu.type_inv (c.further-hu.ensures ∙ ap₂ (further true) (small_back w64 tt h.0.hu) (small_back w64 tt h.1.on_u));
-      lv = call_is w64 c.further-lv.type_inv (c.further-lv.ensures ∙ ap₂ (further false) (small_back w64 tt h.0.lv) (small_back w64 tt h.1.on-v));
-      hv = call_is w64 c.further-hv.type_inv (c.further-hv.ensures ∙ ap₂ (further true) (small_back w64 tt h.0.hv) (small_back w64 tt h.1.on-v));
+      lu = call_is w64 c.min-lu.type_inv (c.min-lu.ensures.value ∙ ap₂ least (small_back w64 tt b.lu) (small_back w64 tt p.on_u));
+      hu = call_is w64 c.max-hu.type_inv (c.max-hu.ensures.value ∙ ap₂ most (small_back w64 tt b.hu) (small_back w64 tt p.on_u));
+      lv = call_is w64 c.min-lv.type_inv (c.min-lv.ensures.value ∙ ap₂ least (small_back w64 tt b.lv) (small_back w64 tt p.on-v));
+      hv = call_is w64 c.max-hv.type_inv (c.max-hv.ensures.value ∙ ap₂ most (small_back w64 tt b.hv) (small_back w64 tt p.on-v));
     }

@@ -1,5 +1,4 @@
 -- `holes::meets::rings_meet` meets its contract. The loop: what is left of the one ring tells of the whole.
-use Prim.Native.Nat.{◌-◌}
 use Rattle.whole.specs.Lists.{any, steps}
 use Rattle.plane.specs.Plane.{share}
 use Rattle.fan.specs.held.Fan.{spot_in}
@@ -8,7 +7,4 @@ use Rattle.holes.specs.laws.Passes.{Left}
 use Rattle.holes.proofs.meets.rings_meet.Given as goal
 
 abbrev pub invariant-loop-i : goal.invariant-loop-i
-invariant-loop-i l = Left (λ e. any (share e) (steps (spots_in l.points l.j l.k l.s))) (spot_in l.points l.j l.k) l.r l.i
-
-abbrev pub decreases-loop-i : goal.decreases-loop-i
-decreases-loop-i l = l.n - l.i
+invariant-loop-i l = Left (λ e. any (share e) (steps (spots_in l.points.flat l.plane.u l.plane.v l.s))) (spot_in l.points.flat l.plane.u l.plane.v) l.r l.i

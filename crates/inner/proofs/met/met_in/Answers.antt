@@ -7,8 +7,8 @@ use Rattle.inner.proofs.met.met_in.Goals as goal
 
 pub returns-then-number-eq3 : goal.returns-then-number-eq3
 returns-then-number-eq3 c = let a = c.args in
-    c.repeated_in.ensures ∙ at_03 (points_of a.points.now) (ring_at a.entries.now a.starts.now a.q) c.if-number-eq3.true
+    c.repeated_in.ensures ∙ at_03 (points_of a.points.now.flat) (ring_at a.rings.now.entries a.rings.now.starts a.q) c.if-number-eq3.true
 
 pub returns : goal.returns
 returns c = let a = c.args in
-    c.crossed_in.ensures ∙ at_05 (points_of a.points.now) (ring_at a.entries.now a.starts.now a.q) c.if-number-eq3.false
+    c.crossed_in.ensures ∙ at_05 (points_of a.points.now.flat) (ring_at a.rings.now.entries a.rings.now.starts a.q) c.if-number-eq3.false

@@ -1,12 +1,9 @@
--- `inner::rings::told` meets its contract. What was kept stays; otherwise the ring's own finding is kept, moved on where it has a position.
-use Rattle.inner.proofs.laws.Tables.{told_03, told_05, told_other}
+-- `inner::rings::told` meets its contract. What was told stays; otherwise the ring's own finding is told, moved on where it has a position.
+use mathlib.Core.Path.{refl}
 use Rattle.inner.proofs.rings.told.Goals as goal
 
-pub returns-then-own-eq3 : goal.returns-then-own-eq3
-returns-then-own-eq3 c = record { had = λ h. absurd (h c.if-kept-ne0.false); new = λ z. told_03 c.args.before c.if-own-eq3.true }
+pub returns-in-Sound : goal.returns-in-Sound
+returns-in-Sound c = record { told = record { had = λ h. absurd (h c.in-Sound.is); new = λ z. c.later.ensures.found }; few = c.later.ensures.few }
 
-pub returns-then-own-eq5 : goal.returns-then-own-eq5
-returns-then-own-eq5 c = record { had = λ h. absurd (h c.if-kept-ne0.false); new = λ z. told_05 c.args.before c.if-own-eq5.true }
-
-pub returns : goal.returns
-returns c = record { had = λ h. absurd (h c.if-kept-ne0.false); new = λ z. told_other c.args.before c.if-own-eq3.false c.if-own-eq5.false }
+pub returns-in_default : goal.returns-in_default
+returns-in_default c = record { told = record { had = λ h. refl; new = λ z. absurd (c.in_default.not-Sound z) }; few = c.requires.0 }

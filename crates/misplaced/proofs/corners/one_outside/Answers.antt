@@ -16,17 +16,16 @@ loop-q-init c = rest_all _ _ _ _
 pub stands_in-requires : goal.stands_in-requires
 stands_in-requires c = let a = c.args in
     let l = c.loop-q in
-    let low = l.invariant.low in
-    record { coords = c.requires.coords; ring = (c.requires.rings.0.each l.q (omega (arith, low)) c.loop-q-test.true, c.requires.filled.each l.q (omega (arith, low)) c.loop-q-test.true); ring_2 = c.requires.rings.0.each a.from (le_refl a.from) c.requires.rings.1; plane = c.requires.plane }
+    record { ring = (c.requires.rings.0.each l.q (omega arith) c.loop-q-test.true, c.requires.filled.each l.q (omega arith) c.loop-q-test.true); ring_2 = c.requires.rings.0.each a.from (le_refl a.from) c.requires.rings.1 }
 
 pub returns-then-not-stands_in : goal.returns-then-not-stands_in
 returns-then-not-stands_in c = let a = c.args in
-    rest-here (spots_at a.points.now a.j a.k a.entries.now a.starts.now) (λ s. not (stands (spot_in a.points.now a.j a.k 0) s (spots_at a.points.now a.j a.k a.entries.now a.starts.now a.from))) (a.from + 1) a.to c.loop-q.invariant c.loop-q-test.true (ap not (sym c.stands_in.ensures) ∙ ap not c.if-not-stands_in.true)
+    rest-here (spots_at a.points.now.flat a.plane.u a.plane.v a.rings.now.entries a.rings.now.starts) (λ s. not (stands (spot_in a.points.now.flat a.plane.u a.plane.v 0) s (spots_at a.points.now.flat a.plane.u a.plane.v a.rings.now.entries a.rings.now.starts a.from))) (a.from + 1) a.to c.loop-q.invariant c.loop-q-test.true (ap not (sym c.stands_in.ensures) ∙ ap not c.if-not-stands_in.true)
 
 pub loop-q-preserved : goal.loop-q-preserved
 loop-q-preserved c = let a = c.args in
-    rest-next (spots_at a.points.now a.j a.k a.entries.now a.starts.now) (λ s. not (stands (spot_in a.points.now a.j a.k 0) s (spots_at a.points.now a.j a.k a.entries.now a.starts.now a.from))) (a.from + 1) a.to c.loop-q.invariant c.loop-q-test.true (ap not (sym c.stands_in.ensures) ∙ ap not c.if-not-stands_in.false)
+    rest-next (spots_at a.points.now.flat a.plane.u a.plane.v a.rings.now.entries a.rings.now.starts) (λ s. not (stands (spot_in a.points.now.flat a.plane.u a.plane.v 0) s (spots_at a.points.now.flat a.plane.u a.plane.v a.rings.now.entries a.rings.now.starts a.from))) (a.from + 1) a.to c.loop-q.invariant c.loop-q-test.true (ap not (sym c.stands_in.ensures) ∙ ap not c.if-not-stands_in.false)
 
 pub returns : goal.returns
 returns c = let a = c.args in
-    rest_end (spots_at a.points.now a.j a.k a.entries.now a.starts.now) (λ s. not (stands (spot_in a.points.now a.j a.k 0) s (spots_at a.points.now a.j a.k a.entries.now a.starts.now a.from))) (a.from + 1) a.to c.loop-q.invariant (omega (arith, c.loop-q-test.false))
+    rest_end (spots_at a.points.now.flat a.plane.u a.plane.v a.rings.now.entries a.rings.now.starts) (λ s. not (stands (spot_in a.points.now.flat a.plane.u a.plane.v 0) s (spots_at a.points.now.flat a.plane.u a.plane.v a.rings.now.entries a.rings.now.starts a.from))) (a.from + 1) a.to c.loop-q.invariant (omega arith)

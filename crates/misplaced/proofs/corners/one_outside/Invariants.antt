@@ -1,5 +1,5 @@
 -- `misplaced::corners::one_outside` meets its contract. The loop: the rings that are left tell of all.
-use Prim.Native.Nat.{◌-◌, ◌+◌}
+use Prim.Native.Nat.{◌+◌}
 use mathlib.Core.Bool.{not}
 use Rattle.fan.specs.held.Fan.{spot_in}
 use Rattle.holes.specs.held.Rings.{spots_at}
@@ -8,7 +8,4 @@ use Rattle.holes.specs.laws.Passes.{Rest}
 use Rattle.misplaced.proofs.corners.one_outside.Given as goal
 
 abbrev pub invariant-loop-q : goal.invariant-loop-q
-invariant-loop-q l = Rest (spots_at l.points l.j l.k l.entries l.starts) (λ s. not (stands (spot_in l.points l.j l.k 0) s (spots_at l.points l.j l.k l.entries l.starts l.from))) (l.from + 1) l.to l.q
-
-abbrev pub decreases-loop-q : goal.decreases-loop-q
-decreases-loop-q l = l.to - l.q
+invariant-loop-q l = Rest (spots_at l.points.flat l.plane.u l.plane.v l.rings.entries l.rings.starts) (λ s. not (stands (spot_in l.points.flat l.plane.u l.plane.v 0) s (spots_at l.points.flat l.plane.u l.plane.v l.rings.entries l.rings.starts l.from))) (l.from + 1) l.to l.q

@@ -1,41 +1,32 @@
 -- `misplaced::corners::stands_in` meets its contract. The first entry's place is the ring's first corner.
-use native.Mathlib.Omega.{arith}
-use mathlib.Core.Path.{◌∙◌, sym, ap}
-use lib.ListN.{get_or}
-use mir.Syntax.{w64}
+use mathlib.Core.Path.{◌∙◌, sym, ap, ap₂, subst}
+use mathlib.Core.List.{List}
+use Prim.Native.Nat.{ℕ, ◌<◌}
+use lib.ListN.{get_or, length}
 use Rattle.whole.specs.Lists.{steps}
 use Rattle.whole.specs.laws.Places.{map_at}
-use Rattle.whole.specs.laws.Size.{call_is}
 use Rattle.plane.specs.Plane.{Spot}
+use Rattle.space.specs.held.Points.{Known}
 use Rattle.fan.specs.held.Fan.{spot_in}
 use Rattle.ring.specs.held.Rings.{ring_at}
 use Rattle.rays.specs.Inside.{inside}
-use Rattle.rays.specs.laws.Seen.{close_at, close_is, spot_is}
-use Rattle.holes.specs.held.Rings.{spots_at}
-use Rattle.holes.specs.laws.Tables.{first_lies, first_is, first_known}
+use Rattle.rays.specs.held.Seen.{spots_in}
 use Rattle.misplaced.proofs.corners.stands_in.Goals as goal
 
-pub bounds-entries-first : goal.bounds-entries-first
-bounds-entries-first c = let h = c.requires.ring in omega (arith, first_lies h.0 h.1, h.0.entries-size)
+pub bounds-own-0 : goal.bounds-own-0
+bounds-own-0 c = subst (λ (r : List ℕ). 0 < length r) (sym c.ring-own.ensures) c.requires.ring.1
 
-pub coordinate-u-requires : goal.coordinate-u-requires
-coordinate-u-requires c = record { coords = c.requires.coords; p_bound = (first_known c.requires.ring.0 c.requires.ring.1, c.requires.plane.first) }
-
-pub coordinate-v-requires : goal.coordinate-v-requires
-coordinate-v-requires c = record { coords = c.requires.coords; p_bound = (first_known c.requires.ring.0 c.requires.ring.1, c.requires.plane.second) }
+pub spot-corner-requires : goal.spot-corner-requires
+spot-corner-requires c = let h = c.requires.ring in
+    subst (λ (r : List ℕ). get_or r 0 0 < 512) (sym c.ring-own.ensures) (h.0.known.each 0 h.1)
 
 pub inside-requires : goal.inside-requires
-inside-requires c = let a = c.args in
-    let n = get_or a.entries.now (get_or a.starts.now a.p 0) 0 in
-    let p = spot_in a.points.now a.j a.k n in
-    record { coords = c.requires.coords; known = c.requires.ring_2.known; plane = c.requires.plane; close = close_is p (call_is w64 c.coordinate-u.type_inv c.coordinate-u.ensures) (call_is w64 c.coordinate-v.type_inv c.coordinate-v.ensures) (close_at a.points.now c.requires.coords a.j a.k n) }
+inside-requires c = record { known = subst Known (sym c.ring-other.ensures) c.requires.ring_2.known; close = c.spot-corner.ensures.close }
 
 pub returns : goal.returns
-returns c = let h = c.requires.ring in
-    let a = c.args in
-    let at = spot_in a.points.now a.j a.k in
-    let n = get_or a.entries.now (get_or a.starts.now a.p 0) 0 in
-    let e = spot_is (at n) (call_is w64 c.coordinate-u.type_inv c.coordinate-u.ensures) (call_is w64 c.coordinate-v.type_inv c.coordinate-v.ensures) in
+returns c = let a = c.args in
+    let at = spot_in a.points.now.flat a.plane.u a.plane.v in
     c.inside.ensures
-    ∙ ap (λ (q : Spot). inside q (steps (spots_at a.points.now a.j a.k a.entries.now a.starts.now a.q)))
-    (e ∙ ap at (first_is h.0 h.1) ∙ sym (map_at at (ring_at a.entries.now a.starts.now a.p) 0 0 (at 0) h.1))
+    ∙ ap₂ (λ (q : Spot) (s : List ℕ). inside q (steps (spots_in a.points.now.flat a.plane.u a.plane.v s)))
+    (c.spot-corner.ensures.place ∙ ap (λ (r : List ℕ). at (get_or r 0 0)) c.ring-own.ensures ∙ sym (map_at at (ring_at a.rings.now.entries a.rings.now.starts a.p) 0 0 (at 0) c.requires.ring.1))
+    c.ring-other.ensures

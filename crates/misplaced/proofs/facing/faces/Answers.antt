@@ -9,7 +9,7 @@ use Rattle.holes.specs.Holes.{component, component_of, is_opposite}
 use Rattle.misplaced.proofs.facing.faces.Goals as goal
 
 pub component-d-requires : goal.component-d-requires
-component-d-requires c = near_same c.normal-n.ensures (normal-near c.requires.coords c.requires.known)
+component-d-requires c = near_same c.normal-n.ensures (normal-near c.args.points.now.coords c.requires.known)
 
 pub returns : goal.returns
 unfolding is_opposite component_of

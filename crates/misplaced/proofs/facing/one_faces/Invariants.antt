@@ -1,5 +1,4 @@
 -- `misplaced::facing::one_faces` meets its contract. The loop: the rings that are left tell of all.
-use Prim.Native.Nat.{◌-◌}
 use mathlib.Core.Bool.{not}
 use Rattle.space.specs.held.Points.{points_of}
 use Rattle.ring.specs.held.Rings.{ring_at}
@@ -8,7 +7,4 @@ use Rattle.holes.specs.laws.Passes.{Rest}
 use Rattle.misplaced.proofs.facing.one_faces.Given as goal
 
 abbrev pub invariant-loop-q : goal.invariant-loop-q
-invariant-loop-q l = Rest (λ r. component_of l.axis (points_of l.points) (ring_at l.entries l.starts r)) (λ d. not (is_opposite l.c d)) l.p l.to l.q
-
-abbrev pub decreases-loop-q : goal.decreases-loop-q
-decreases-loop-q l = l.to - l.q
+invariant-loop-q l = Rest (λ r. component_of l.axis (points_of l.points.flat) (ring_at l.rings.entries l.rings.starts r)) (λ d. not (is_opposite l.c d)) l.p l.to l.q

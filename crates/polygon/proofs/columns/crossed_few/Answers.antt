@@ -5,8 +5,8 @@ use Rattle.polygon.proofs.columns.crossed_few.Goals as goal
 
 pub first_crossed-requires : goal.first_crossed-requires
 first_crossed-requires c = let h = c.requires.in_bounds in
-    spread_is c.requires.coords h.1 h.0 c.fill.ensures c.fill-2.ensures
+    spread_is c.args.points.now.coords h.1 h.0 c.fill.ensures c.fill-2.ensures
 
 pub returns : goal.returns
 returns c = let h = c.requires.in_bounds in
-    c.first_crossed.ensures ∙ crossed_is c.requires.coords h.1 h.0 c.fill.ensures c.fill-2.ensures
+    c.first_crossed.ensures ∙ crossed_is c.args.points.now.coords h.1 h.0 c.fill.ensures c.fill-2.ensures

@@ -3,4 +3,4 @@ use native.Mathlib.Omega.{arith}
 use Rattle.polygon.proofs.columns.crossed_in.Goals as goal
 
 pub crossed_many-requires : goal.crossed_many-requires
-crossed_many-requires c = record { coords = c.requires.coords; known = c.requires.known; in_bounds = (omega arith, omega (arith, c.requires.known), omega arith, omega arith) }
+crossed_many-requires c = record { known = c.requires.known; in_bounds = (omega arith, omega (arith, c.requires.known)) }

@@ -6,8 +6,8 @@ use Rattle.polygon.proofs.columns.crossed_many.Goals as goal
 
 pub first_crossed-requires : goal.first_crossed-requires
 first_crossed-requires c = let h = c.requires.in_bounds in
-    record { spread = spread_is c.requires.coords h.1 (omega arith) c.fill.ensures c.fill-2.ensures; le_m = (omega arith, omega arith) }
+    record { spread = spread_is c.args.points.now.coords h.1 (omega arith) c.fill.ensures c.fill-2.ensures; le_m = (omega arith, omega arith) }
 
 pub returns : goal.returns
 returns c = let h = c.requires.in_bounds in
-    c.first_crossed.ensures ∙ crossed_is c.requires.coords h.1 (omega arith) c.fill.ensures c.fill-2.ensures
+    c.first_crossed.ensures ∙ crossed_is c.args.points.now.coords h.1 (omega arith) c.fill.ensures c.fill-2.ensures

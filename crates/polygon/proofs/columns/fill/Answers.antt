@@ -6,19 +6,16 @@ use Rattle.polygon.proofs.Filled.{filling_start, filling_more, filling_end}
 use Rattle.polygon.proofs.columns.fill.Goals as goal
 
 pub loop-i-init : goal.loop-i-init
-loop-i-init c = filling_start c.args.points.now c.args.ring.now c.args.k _
-
-pub coordinate-x-requires : goal.coordinate-x-requires
-coordinate-x-requires c = record { coords = c.requires.coords; p_bound = (c.requires.known.each c.loop-i.i c.loop-i-test.true, c.requires.k_bound.0) }
+loop-i-init c = filling_start c.args.points.now.flat c.args.ring.now c.args.k _
 
 pub bounds-room-i : goal.bounds-room-i
-bounds-room-i c = omega (arith, c.loop-i.invariant.all, c.requires.k_bound.1, c.loop-i-test.true)
+bounds-room-i c = omega (arith, c.loop-i.invariant.all)
 
 pub loop-i-preserved : goal.loop-i-preserved
-loop-i-preserved c = filling_more c.loop-i.invariant c.loop-i-test.true (omega (arith, c.loop-i.invariant.all, c.requires.k_bound.1, c.loop-i-test.true)) _ (call_is w64 c.coordinate-x.type_inv c.coordinate-x.ensures)
+loop-i-preserved c = filling_more c.loop-i.invariant (omega arith) (omega (arith, c.loop-i.invariant.all)) _ (call_is w64 c.coordinate.type_inv c.coordinate.ensures)
 
 pub shape_of-room : goal.shape_of-room
 shape_of-room c = c.loop-i.invariant.all
 
 pub returns : goal.returns
-returns c = filling_end c.loop-i.invariant (omega (arith, c.loop-i.invariant.upto, c.loop-i-test.false))
+returns c = filling_end c.loop-i.invariant (omega (arith, c.loop-i.invariant.upto))

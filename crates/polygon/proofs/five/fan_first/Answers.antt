@@ -17,14 +17,14 @@ use Rattle.polygon.proofs.five.fan_first.Goals as goal
 use Rattle.polygon.proofs.five.fan_first.Goals.{Else-is_zero, Start, Then-is_fan}
 
 near : (c : Start) → Near 10160000000000 (as_point c.args.n)
-near c = near_same c.requires.n_value (normal-near c.requires.coords c.requires.known)
+near c = near_same c.requires.n_value (normal-near c.args.points.now.coords c.requires.known)
 
 -- ---- what each check told
-some : (c : Else-is_zero) → is_zero_of (normal ((places (points_of c.args.points.now) c.args.ring.now))) ≡ false
+some : (c : Else-is_zero) → is_zero_of (normal ((places (points_of c.args.points.now.flat) c.args.ring.now))) ≡ false
 some c = ap is_zero_of (sym c.requires.n_value) ∙ sym c.is_zero.ensures ∙ c.if-is_zero.false
 
-fan : (c : Then-is_fan) → is_fan_of (λ i. drop_axis (largest_axis_of (normal ((places (points_of c.args.points.now) c.args.ring.now)))) (place_at c.args.points.now (get_or c.args.ring.now i 0))) (length c.args.ring.now - 3) ≡ true
-fan c = ap (λ (x : Axis). is_fan_of (λ i. drop_axis x (place_at c.args.points.now (get_or c.args.ring.now i 0))) (length c.args.ring.now - 3)) (sym (c.largest_axis.ensures ∙ ap largest_axis_of c.requires.n_value)) ∙ sym c.is_fan.ensures ∙ c.if-is_fan.true
+fan : (c : Then-is_fan) → is_fan_of (λ i. drop_axis (largest_axis_of (normal ((places (points_of c.args.points.now.flat) c.args.ring.now)))) (place_at c.args.points.now.flat (get_or c.args.ring.now i 0))) (length c.args.ring.now - 3) ≡ true
+fan c = ap (λ (x : Axis). is_fan_of (λ i. drop_axis x (place_at c.args.points.now.flat (get_or c.args.ring.now i 0))) (length c.args.ring.now - 3)) (sym (c.largest_axis.ensures ∙ ap largest_axis_of c.requires.n_value)) ∙ sym c.is_fan.ensures ∙ c.if-is_fan.true
 
 -- ---- the needs
 pub is_zero-requires : goal.is_zero-requires
@@ -35,5 +35,5 @@ largest_axis-requires c = near ((goal.at.largest_axis-requires c).Start)
 
 pub returns-then-is_fan : goal.returns-then-is_fan
 returns-then-is_fan c = let h = c.requires.in_bounds in
-    let x = largest_axis_of (normal ((places (points_of c.args.points.now) c.args.ring.now))) in
-    found_none (points_of c.args.points.now) c.args.ring.now h.0 h.1 (fan-single c.requires.coords c.requires.known h.0 h.1 x (fan c)) (some ((goal.at.returns-then-is_fan c).Else-is_zero)) (fan-uncrossed c.requires.coords c.requires.known h.0 h.1 x (fan c))
+    let x = largest_axis_of (normal ((places (points_of c.args.points.now.flat) c.args.ring.now))) in
+    found_none (points_of c.args.points.now.flat) c.args.ring.now h.0 h.1 (fan-single c.args.points.now.coords c.requires.known h.0 h.1 x (fan c)) (some ((goal.at.returns-then-is_fan c).Else-is_zero)) (fan-uncrossed c.args.points.now.coords c.requires.known h.0 h.1 x (fan c))

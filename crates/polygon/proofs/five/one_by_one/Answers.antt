@@ -20,10 +20,10 @@ closed : (c : Else-not-is_closed) → is_unclosed c.args.ring.now ≡ false
 closed c = unclosed_is c.is_closed.ensures (ap not c.if-not-is_closed.false)
 
 pub returns-then-ring-lt4 : goal.returns-then-ring-lt4
-returns-then-ring-lt4 c = found_short (points_of c.args.points.now) c.args.ring.now c.if-ring-lt4.true
+returns-then-ring-lt4 c = found_short (points_of c.args.points.now.flat) c.args.ring.now c.if-ring-lt4.true
 
 pub returns-then-not-is_closed : goal.returns-then-not-is_closed
-returns-then-not-is_closed c = found-unclosed (points_of c.args.points.now) c.args.ring.now (long ((goal.at.returns-then-not-is_closed c).Else-ring-lt4)) (unclosed_is c.is_closed.ensures (ap not c.if-not-is_closed.true))
+returns-then-not-is_closed c = found-unclosed (points_of c.args.points.now.flat) c.args.ring.now (long ((goal.at.returns-then-not-is_closed c).Else-ring-lt4)) (unclosed_is c.is_closed.ensures (ap not c.if-not-is_closed.true))
 
 pub third_to_fifth-requires : goal.third_to_fifth-requires
-third_to_fifth-requires c = record { coords = c.requires.coords; known = c.requires.known; in_bounds = (long ((goal.at.third_to_fifth-requires c).Else-ring-lt4), closed c); n_value = c.requires.n_value }
+third_to_fifth-requires c = record { known = c.requires.known; in_bounds = (long ((goal.at.third_to_fifth-requires c).Else-ring-lt4), closed c); n_value = c.requires.n_value }

@@ -9,11 +9,8 @@ use Rattle.normal.specs.laws.Sizes.{normal-near}
 use Rattle.polygon.specs.laws.FromNormal.{about_first}
 use Rattle.polygon.proofs.five.part_of.Goals as goal
 
-pub place_of-requires : goal.place_of-requires
-place_of-requires c = record { coords = c.requires.coords; p_bound = c.requires.known.each 0 c.requires.in_bounds }
-
 pub dot-requires : goal.dot-requires
-dot-requires c = (near_same c.requires.n_value (normal-near c.requires.coords c.requires.known), near_same c.place_of.ensures (near_more (omega arith) (near-place c.requires.coords (get_or c.args.ring.now 0 0))))
+dot-requires c = (near_same c.requires.n_value (normal-near c.args.points.now.coords c.requires.known), near_same c.place.ensures (near_more (omega arith) (near-place c.args.points.now.coords (get_or c.args.ring.now 0 0))))
 
 pub returns : goal.returns
-returns c = call_is w64 c.dot.type_inv (c.dot.ensures ∙ about_first c.requires.coords c.requires.known c.requires.in_bounds c.requires.n_value c.place_of.ensures)
+returns c = call_is w64 c.dot.type_inv (c.dot.ensures ∙ about_first c.args.points.now.coords c.requires.known c.requires.in_bounds c.requires.n_value c.place.ensures)

@@ -1,0 +1,10 @@
+-- `boxes::Boxed::far` meets its contract. The loop: the blocks passed are parted.
+use Rattle.std.proofs.Common.{true, ◌+◌, ◌-◌, ◌≤◌}
+use Rattle.boxes.specs.held.Boxes.{Parted}
+use Rattle.boxes.proofs.Boxed.far.Given as goal
+
+abbrev pub invariant-loop-c : goal.invariant-loop-c
+invariant-loop-c l = (l.b ≤ l.c) × (l.c ≤ 24) × Parted l.self.u.now l.self.v.now l.i (144 + l.b) (144 + l.c) true
+
+abbrev pub decreases-loop-c : goal.decreases-loop-c
+decreases-loop-c l = l.blocks - l.c
