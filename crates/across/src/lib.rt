@@ -33,7 +33,7 @@ pub fn ask(table: &[u64; 1024], room: &mut [u8], d: Desk, m: u16, n: u16) -> Des
     if let Err(refusal) = of_across(d, usize::from(m), usize::from(n)) {
         return desk::refuse(room, d, refusal);
     }
-    let users = users::users_of(table, d.held.edges, m, n);
+    let users = users::users_of(&table[..d.held.edges], m, n);
     let at = answer::put_across(room, d.at, users.count, users.lowest, users.second);
     Desk { at, ..d }
 }

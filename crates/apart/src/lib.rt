@@ -2,7 +2,7 @@
 
 #![tactic(auto)]
 
-ghost use Rattle.std.specs.Prelude.{◌≡◌, true, ◌%◌, ◌≤◌, ◌<◌, length, IfSome, unwrap_or};
+ghost use Rattle.std.specs.Prelude.{◌≡◌, true, ◌+◌, ◌%◌, ◌≤◌, ◌<◌, length, set, IfSome, unwrap_or};
 ghost use Rattle.bits.specs.held.Bits.{marks_of};
 ghost use Rattle.words.specs.held.Words.{poly_from};
 ghost use Rattle.reach.specs.held.Marking.{Marked, Joined, Flooded};
@@ -65,67 +65,83 @@ fn spread(words: &[u64], n: usize, marks: &mut [u64; 4]) -> bool
     lowest_below(marks, n).is_none()
 }
 
-// Lists the places of each polygon's words: the last one by polygon, and by place the one before it, each one up; 0 ends a list.
-fn lists(words: &[u64], head: &mut [u16; 256], chain: &mut [u16; 1024])
-    requires { (length words.now ≤ 1024) × Listed words.now head.old chain.old 0 }
-    ensures { Listed words.now head.new chain.new (length words.now) }
+// The places of each polygon's words: by polygon the last of them, and by place the one before it, each one up; 0 ends a list.
+#[derive(Drop)]
+struct Places {
+    head: [u16; 256],
+    chain: [u16; 1024],
+}
+
+// Lists the places of each polygon's words.
+fn lists(words: &[u64], places: &mut Places)
+    requires { (length words.now ≤ 1024) × Listed words.now places.old.head places.old.chain 0 }
+    ensures { Listed words.now places.new.head places.new.chain (length words.now) }
 {
     for (i, w) in words.iter().enumerate() {
         let p = words::node_of(*w, Node::Polygon);
-        chain[i] = head[p];
-        head[p] = (i + 1) as u16;
+        places.chain[i] = places.head[p];
+        places.head[p] = (i + 1) as u16;
     }
 }
 
-// Marks a polygon that has no mark, and puts it last among those found; how many there are.
-fn note(marks: &mut [u64; 4], found: &mut [u16; 256], to: usize, q: usize) -> usize
-    requires { Queue (marks_of marks.old) found.old to × (q < 256) }
-    ensures { Widened (λ p. p ≡ q) (marks_of marks.old) found.old to (marks_of marks.new) found.new result }
+// The polygons found, in the order in which they are, and how many there are.
+#[derive(Drop)]
+struct Found {
+    list: [u16; 256],
+    len: usize,
+}
+
+impl Found {
+    // Puts a polygon last.
+    fn push(&mut self, q: usize)
+        requires { (self.old.len < 256) × (q < 256) }
+        ensures { (self.new.list ≡ set self.old.list self.old.len q) × (self.new.len ≡ self.old.len + 1) }
+    {
+        self.list[self.len] = q as u16;
+        self.len += 1;
+    }
+}
+
+// Marks a polygon that has no mark, and puts it last among those found.
+fn note(marks: &mut [u64; 4], found: &mut Found, q: usize)
+    requires { Queue (marks_of marks.old) found.old.list found.old.len × (q < 256) }
+    ensures { Widened (λ p. p ≡ q) (marks_of marks.old) found.old.list found.old.len (marks_of marks.new) found.new.list found.new.len }
 {
     if bits::is_marked(marks, q) {
-        return to;
+        return;
     }
     bits::mark(marks, q);
-    found[to] = q as u16;
-    to + 1
+    found.push(q);
 }
 
 // Marks the polygons across from p, each word of p once.
-fn visit(
-    words: &[u64],
-    head: &[u16; 256],
-    chain: &[u16; 1024],
-    p: usize,
-    marks: &mut [u64; 4],
-    found: &mut [u16; 256],
-    to: usize,
-) -> usize
-    requires { (length words.now ≤ 1024) × Listed words.now head.now chain.now (length words.now) × Queue (marks_of marks.old) found.old to × Marked (marks_of marks.old) p × (p < 256) }
-    ensures { Widened (Joined words.now poly_from p) (marks_of marks.old) found.old to (marks_of marks.new) found.new result }
+fn visit(words: &[u64], places: &Places, p: usize, marks: &mut [u64; 4], found: &mut Found)
+    requires { (length words.now ≤ 1024) × Listed words.now places.now.head places.now.chain (length words.now) × Queue (marks_of marks.old) found.old.list found.old.len × Marked (marks_of marks.old) p × (p < 256) }
+    ensures { Widened (Joined words.now poly_from p) (marks_of marks.old) found.old.list found.old.len (marks_of marks.new) found.new.list found.new.len }
 {
     let n = words.len();
-    let mut t = to;
-    let mut j = usize::from(head[p]);
+    let mut j = usize::from(places.head[p]);
     while j != 0 {
         let i = j - 1;
         let q = words::node_of(words[words::mate(n, i)], Node::Polygon);
-        t = note(marks, found, t, q);
-        j = usize::from(chain[i]);
+        note(marks, found, q);
+        j = usize::from(places.chain[i]);
     }
-    t
 }
 
 // Takes each polygon once, in the order in which they are found, and so each word once, whatever the numbering.
-fn take_all(words: &[u64], head: &[u16; 256], chain: &[u16; 1024], marks: &mut [u64; 4])
-    requires { (length words.now ≤ 1024) × Listed words.now head.now chain.now (length words.now) × Seeded (marks_of marks.old) }
+fn take_all(words: &[u64], places: &Places, marks: &mut [u64; 4])
+    requires { (length words.now ≤ 1024) × Listed words.now places.now.head places.now.chain (length words.now) × Seeded (marks_of marks.old) }
     ensures { Flooded (Joined words.now poly_from) (marks_of marks.old) (marks_of marks.new) }
 {
-    let mut found = [0u16; 256];
+    let mut found = Found {
+        list: [0u16; 256],
+        len: 1,
+    };
     let mut from: usize = 0;
-    let mut to: usize = 1;
-    while from < to {
-        let p = usize::from(found[from]);
-        to = visit(words, head, chain, p, marks, &mut found, to);
+    while from < found.len {
+        let p = usize::from(found.list[from]);
+        visit(words, places, p, marks, &mut found);
         from += 1;
     }
 }
@@ -135,10 +151,12 @@ fn take(words: &[u64], marks: &mut [u64; 4])
     requires { (length words.now ≤ 1024) × Seeded (marks_of marks.old) }
     ensures { Flooded (Joined words.now poly_from) (marks_of marks.old) (marks_of marks.new) }
 {
-    let mut head = [0u16; 256];
-    let mut chain = [0u16; 1024];
-    lists(words, &mut head, &mut chain);
-    take_all(words, &head, &chain, marks);
+    let mut places = Places {
+        head: [0u16; 256],
+        chain: [0u16; 1024],
+    };
+    lists(words, &mut places);
+    take_all(words, &places, marks);
 }
 
 // Polygon 0 alone is marked.

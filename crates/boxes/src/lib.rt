@@ -4,7 +4,7 @@
 
 #![tactic(auto)]
 
-ghost use Rattle.std.specs.Prelude.{◌≡◌, true, ◌||◌, ◌⊎◌, ◌+◌, ◌-◌, ◌*◌, ◌<◌, ◌≤◌};
+ghost use Rattle.std.specs.Prelude.{◌≡◌, true, ◌||◌, ◌⊎◌, ◌+◌, ◌-◌, ◌*◌, ◌<◌, ◌≤◌, IfSome, unwrap_or};
 ghost use Rattle.whole.specs.Lists.{tab};
 ghost use Rattle.crossing.specs.Crossed.{forbidden, crossed_at};
 ghost use Rattle.plane.specs.held.Edges.{edge_at};
@@ -262,7 +262,8 @@ impl Boxed<'_> {
     // look at, and their neighbours do not.
     fn first_past(&self, near: usize) -> usize
         requires { FirstNear self.now.columns near }
-        ensures { result ≡ crossed_at (edges self.now.columns) }
+        ensures few { result ≤ self.now.columns.m }
+        ensures first { result ≡ crossed_at (edges self.now.columns) }
     {
         for i in 0..near {
             if self.clashes_boxed(i) {
@@ -273,12 +274,13 @@ impl Boxed<'_> {
     }
 }
 
-// The least of m edges that does with any other; m if there is none. Neighbours first, then the others by their boxes. What no edge
-// fills is parted from every box.
-pub fn first_crossed(us: &[i64], vs: &[i64], m: usize) -> usize
+// The least of m edges that does with any other. Neighbours first, then the others by their boxes. What no edge fills is parted from
+// every box.
+pub fn first_crossed(us: &[i64], vs: &[i64], m: usize) -> Option<usize>
     requires spread { Spread us.now vs.now m }
     requires le_m { (1 ≤ m) × (m ≤ 128) }
-    ensures { result ≡ crossed_at (tab (edge_at us.now vs.now) m) }
+    ensures few { IfSome result (λ i. i < m) }
+    ensures first { unwrap_or result m ≡ crossed_at (tab (edge_at us.now vs.now) m) }
 {
     let columns = Columns { us, vs, m };
     let near = first_near(&columns);
@@ -297,5 +299,6 @@ pub fn first_crossed(us: &[i64], vs: &[i64], m: usize) -> usize
         u: &u,
         v: &v,
     };
-    boxed.first_past(near)
+    let first = boxed.first_past(near);
+    if first < m { Some(first) } else { None }
 }

@@ -51,7 +51,7 @@ fn held_shape(
     requires { edges ≤ 1024 }
     ensures { (result ≡ checked s edges fixed result.shape) × Shown table.now edges turned.now fixed result.shape }
 {
-    let shape = directions::shape_now(table, edges, turned, fixed);
+    let shape = directions::shape_now(&table[..edges], turned, fixed);
     Scalars {
         last: 0,
         edges,

@@ -2,7 +2,7 @@
 
 #![tactic(auto)]
 
-ghost use Rattle.std.specs.Prelude.{◌≡◌, ◌+◌, ◌<◌};
+ghost use Rattle.std.specs.Prelude.{◌≡◌, ◌+◌, ◌<◌, IfSome, unwrap_or};
 ghost use Rattle.whole.specs.Lists.{tab};
 ghost use Rattle.crossing.specs.Crossed.{forbidden, crossed_at};
 ghost use Rattle.plane.specs.held.Edges.{as_segment, edge_at};
@@ -59,23 +59,25 @@ impl Columns<'_> {
         false
     }
 
-    // The first edge that does so with a later one, and so the least that does with any; m if there is none.
-    fn first_crossed(&self) -> usize
-        ensures { result ≡ crossed_at (edges self.now) }
+    // The first edge that does so with a later one, and so the least that does with any.
+    fn first_crossed(&self) -> Option<usize>
+        ensures few { IfSome result (λ i. i < self.now.m) }
+        ensures first { unwrap_or result self.now.m ≡ crossed_at (edges self.now) }
     {
         for i in 0..self.m {
             if self.clashes(i) {
-                return i;
+                return Some(i);
             }
         }
-        self.m
+        None
     }
 }
 
-// The least of the m edges between places in two columns that does with any other; m if there is none.
-pub fn first_crossed(us: &[i64], vs: &[i64], m: usize) -> usize
+// The least of the m edges between places in two columns that does with any other.
+pub fn first_crossed(us: &[i64], vs: &[i64], m: usize) -> Option<usize>
     requires { Spread us.now vs.now m }
-    ensures { result ≡ crossed_at (tab (edge_at us.now vs.now) m) }
+    ensures few { IfSome result (λ i. i < m) }
+    ensures first { unwrap_or result m ≡ crossed_at (tab (edge_at us.now vs.now) m) }
 {
     Columns { us, vs, m }.first_crossed()
 }

@@ -39,13 +39,12 @@ fn is_early(s: Shape) -> bool
 }
 
 // The check of 07 to 0C that fails first for the rings as they stand now: `turned` has 1 for each polygon that stands turned.
-// `laws/Now` (`now_is`) says so of the rings that table, flags and verdict belong to.
-pub fn shape_now(table: &[u64; 1024], count: usize, turned: &[u8; 256], fixed: Shape) -> Shape
-    requires { count ≤ 1024 }
-    ensures { result ≡ now_of fixed (alike_in turned.now (take count table.now)) }
+// `laws/Now` (`now_is`) says so of the rings that words, flags and verdict belong to.
+pub fn shape_now(words: &[u64], turned: &[u8; 256], fixed: Shape) -> Shape
+    ensures { result ≡ now_of fixed (alike_in turned.now words.now) }
 {
     if is_early(fixed) {
         return fixed;
     }
-    alike(&table[..count], turned, fixed)
+    alike(words, turned, fixed)
 }

@@ -2,7 +2,7 @@
 
 #![tactic(auto)]
 
-ghost use Rattle.std.specs.Prelude.{◌≡◌, ◌<◌, ◌≤◌, ◌*◌, max, length, pos, nat_abs, ◌*ℤ◌, false, leb, ltb};
+ghost use Rattle.std.specs.Prelude.{◌≡◌, ◌<◌, ◌≤◌, ◌*◌, max, length, pos, nat_abs, ◌*ℤ◌, false, leb, ltb, IfSome, unwrap_or};
 ghost use Rattle.space.specs.Space.{places, relative_to, dot};
 ghost use Rattle.space.specs.held.Points.{points_of, Known, place_at, as_point, Near};
 ghost use Rattle.ring.specs.Entries.{is_unclosed};
@@ -64,55 +64,55 @@ fn is_near(points: &Points, n: Place, tolerance: u16, first: u16, p: u16) -> boo
     off(points, n, first, p) <= reach_of(tolerance, n)
 }
 
-// The first entry that is off by more than a reach, or the ring's length.
-fn first_off(points: &Points, ring: &[u16], n: Place, reach: u64) -> usize
+// The first entry that is off by more than a reach.
+fn first_off(points: &Points, ring: &[u16], n: Place, reach: u64) -> Option<usize>
     requires listed { Listed ring.now }
     requires in_bounds { 1 ≤ length ring.now }
     requires near { Near 10160000000000 (as_point n) }
-    ensures { Next points.now.flat (as_point n) ring.now reach 0 result }
+    ensures few { IfSome result (λ i. i < length ring.now) }
+    ensures next { Next points.now.flat (as_point n) ring.now reach 0 (unwrap_or result (length ring.now)) }
 {
     for (i, p) in ring.iter().enumerate() {
         if reach < off(points, n, ring[0], *p) {
-            return i;
+            return Some(i);
         }
     }
-    ring.len()
+    None
 }
 
 // 06: the least entry p for which "the square of N·(p - first) exceeds tolerance squared times the sum of the squares of N's
-// components", or the ring's length. The limit is made once, and not at all where every entry is within the reach.
-pub fn first_uneven(points: &Points, ring: &[u16], tolerance: u16, n: Place) -> usize
+// components". The limit is made once, and not at all where every entry is within the reach.
+pub fn first_uneven(points: &Points, ring: &[u16], tolerance: u16, n: Place) -> Option<usize>
     requires listed { Listed ring.now }
     requires in_bounds { (1 ≤ length ring.now) × (tolerance ≤ 1000) }
     requires near { Near 10160000000000 (as_point n) }
-    ensures { result ≡ uneven_at tolerance (as_point n) (places (points_of points.now.flat) ring.now) }
+    ensures few { IfSome result (λ i. i < length ring.now) }
+    ensures first { unwrap_or result (length ring.now) ≡ uneven_at tolerance (as_point n) (places (points_of points.now.flat) ring.now) }
 {
-    let from = first_off(points, ring, n, reach_of(tolerance, n));
-    if from == ring.len() {
-        return from;
-    }
+    let from = first_off(points, ring, n, reach_of(tolerance, n))?;
     let limit = limit_of(tolerance, n);
     for i in from..ring.len() {
         if is_beyond(off(points, n, ring[0], ring[i]), limit) {
-            return i;
+            return Some(i);
         }
     }
-    ring.len()
+    None
 }
 
 // 06 of a closed ring whose normal is n. Of four corners the second and the fourth are equally far off, and the third is not off:
 // where the second is within the reach, all are.
-pub fn first_uneven_closed(points: &Points, ring: &[u16], tolerance: u16, n: Place) -> usize
+pub fn first_uneven_closed(points: &Points, ring: &[u16], tolerance: u16, n: Place) -> Option<usize>
     requires known { Known ring.now }
     requires in_bounds { (1 ≤ length ring.now) × (is_unclosed ring.now ≡ false) × (tolerance ≤ 1000) }
     requires n_value { as_point n ≡ normal (places (points_of points.now.flat) ring.now) }
-    ensures { result ≡ uneven_at tolerance (as_point n) (places (points_of points.now.flat) ring.now) }
+    ensures few { IfSome result (λ i. i < length ring.now) }
+    ensures first { unwrap_or result (length ring.now) ≡ uneven_at tolerance (as_point n) (places (points_of points.now.flat) ring.now) }
 {
     if ring.len() == 5 {
         let first = ring[0];
         let second = ring[1];
         if is_near(points, n, tolerance, first, second) {
-            return 5;
+            return None;
         }
     }
     first_uneven(points, ring, tolerance, n)

@@ -5,7 +5,7 @@
 mod met;
 mod rings;
 
-ghost use Rattle.std.specs.Prelude.{◌≡◌, true, ◌≤◌, ◌<◌, length};
+ghost use Rattle.std.specs.Prelude.{◌≡◌, true, ◌≤◌, ◌<◌, length, IfSome, unwrap_or};
 ghost use Rattle.whole.specs.Lists.{first};
 ghost use Rattle.whole.specs.held.Rows.{rows};
 ghost use Rattle.space.specs.Space.{places};
@@ -43,11 +43,12 @@ fn first_uneven(
     to: usize,
     tolerance: u16,
     n: Place,
-) -> usize
+) -> Option<usize>
     requires lies { Lies rings.now.entries rings.now.starts from to }
     requires in_bounds { (1 ≤ length (ring_at rings.now.entries rings.now.starts from)) × (tolerance ≤ 1000) }
     requires near { Near 10160000000000 (as_point n) }
-    ensures { result ≡ uneven_at tolerance (as_point n) (places (points_of points.now.flat) (entries_from (polygon_of rings.now.entries rings.now.starts from to))) }
+    ensures few { IfSome result (λ i. i < length (entries_from (polygon_of rings.now.entries rings.now.starts from to))) }
+    ensures first { unwrap_or result (length (entries_from (polygon_of rings.now.entries rings.now.starts from to))) ≡ uneven_at tolerance (as_point n) (places (points_of points.now.flat) (entries_from (polygon_of rings.now.entries rings.now.starts from to))) }
 {
     let first = rings.starts[from] as usize;
     let last = rings.starts[to] as usize;
@@ -63,8 +64,7 @@ fn last_three(points: &Points, rings: &Rings, from: usize, to: usize, tolerance:
     ensures few { finding_position_of result ≤ 1024 }
 {
     let n = normal_of(points, rings, from);
-    let uneven = first_uneven(points, rings, from, to, tolerance, n);
-    if uneven < rings::entries_of(rings, from, to) {
+    if let Some(uneven) = first_uneven(points, rings, from, to, tolerance, n) {
         return Finding::Uneven(uneven as u16);
     }
     let axis = axes::largest_axis(n);
@@ -125,7 +125,8 @@ pub fn position_of(
 {
     if number == 6 {
         let outer = normal_of(points, rings, from);
-        return first_uneven(points, rings, from, to, tolerance, outer);
+        let all = rings::entries_of(rings, from, to);
+        return first_uneven(points, rings, from, to, tolerance, outer).unwrap_or(all);
     }
-    met::first_met(points, rings, from, to, number)
+    met::first_met(points, rings, from, to, number).unwrap_or(0)
 }

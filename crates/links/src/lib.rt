@@ -70,28 +70,6 @@ fn selves(t: &mut [u16; 1024])
     }
 }
 
-// Writes down, for the corner where a word's step starts and for the one where it ends, the corner across its pair, of word w.
-fn across(v: u64, w: u64, out: &mut [u16; 1024], inn: &mut [u16; 1024])
-    ensures { (out.new ≡ set out.old (step_of v) (node_of (1 + dir_of v) w)) × (inn.new ≡ set inn.old (next_of v) (node_of (3 - (1 + dir_of v)) w)) }
-{
-    let (start, end) = ends_of(v);
-    out[step_of(v)] = words::node_of(w, start) as u16;
-    inn[next_of(v)] = words::node_of(w, end) as u16;
-}
-
-// The same for both words of each pair.
-fn cross(words: &[u64], out: &mut [u16; 1024], inn: &mut [u16; 1024])
-    requires { Selves out.old × Selves inn.old }
-    ensures { Crossed words.now out.new inn.new }
-{
-    for i in 0..words.len() / 2 {
-        let v = words[2 * i];
-        let w = words[2 * i + 1];
-        across(v, w, out, inn);
-        across(w, v, out, inn);
-    }
-}
-
 // Which of its edge's ends a word's step starts at, and which it ends at.
 fn ends_of(w: u64) -> (Node, Node)
     ensures { (number_of result.0 ≡ 1 + dir_of w) × (number_of result.1 ≡ 3 - (1 + dir_of w)) }
@@ -117,22 +95,6 @@ fn next_of(w: u64) -> usize
     (w / 2 % 1024) as usize
 }
 
-// Marks corner after corner, from each to the one that it was not come from, up to one that has a mark. Each turn takes a corner that had
-// none.
-fn walk(out: &[u16; 1024], inn: &[u16; 1024], marks: &mut [u64; 16], from: usize, to: usize)
-    requires { Nodes out.now × Nodes inn.now × Marked (marks_of marks.old) from × Links out.now inn.now from to × (to < 1024) }
-    ensures { Walked (Links out.now inn.now) to (marks_of marks.old) (marks_of marks.new) }
-{
-    let mut p = from;
-    let mut c = to;
-    while !bits::is_marked(marks, c) {
-        bits::mark(marks, c);
-        let n = onward(usize::from(out[c]), usize::from(inn[c]), p);
-        p = c;
-        c = n;
-    }
-}
-
 // Of two numbers the one that is not p, where the other is.
 fn onward(x: usize, y: usize, p: usize) -> usize
     ensures { Onward x y p result }
@@ -140,15 +102,62 @@ fn onward(x: usize, y: usize, p: usize) -> usize
     if x == p { y } else { x }
 }
 
-// Walks both ways from each marked corner.
-fn walks(out: &[u16; 1024], inn: &[u16; 1024], marks: &mut [u64; 16])
-    requires { Nodes out.now × Nodes inn.now }
-    ensures { Traced (Links out.now inn.now) (marks_of marks.old) (marks_of marks.new) }
-{
-    for e in 0..1024 {
-        if bits::is_marked(marks, e) {
-            walk(out, inn, marks, e, usize::from(out[e]));
-            walk(out, inn, marks, e, usize::from(inn[e]));
+// For each corner the two across from it: by the pair of the step that starts there, and by that of the step that ends there.
+#[derive(Drop)]
+struct Tables {
+    out: [u16; 1024],
+    inn: [u16; 1024],
+}
+
+impl Tables {
+    // Writes down, for the corner where a word's step starts and for the one where it ends, the corner across its pair, of word w.
+    fn across(&mut self, v: u64, w: u64)
+        ensures { (self.new.out ≡ set self.old.out (step_of v) (node_of (1 + dir_of v) w)) × (self.new.inn ≡ set self.old.inn (next_of v) (node_of (3 - (1 + dir_of v)) w)) }
+    {
+        let (start, end) = ends_of(v);
+        self.out[step_of(v)] = words::node_of(w, start) as u16;
+        self.inn[next_of(v)] = words::node_of(w, end) as u16;
+    }
+
+    // The same for both words of each pair.
+    fn cross(&mut self, words: &[u64])
+        requires { Selves self.old.out × Selves self.old.inn }
+        ensures { Crossed words.now self.new.out self.new.inn }
+    {
+        for i in 0..words.len() / 2 {
+            let v = words[2 * i];
+            let w = words[2 * i + 1];
+            self.across(v, w);
+            self.across(w, v);
+        }
+    }
+
+    // Marks corner after corner, from each to the one that it was not come from, up to one that has a mark. Each turn takes a corner that
+    // had none.
+    fn walk(&self, marks: &mut [u64; 16], from: usize, to: usize)
+        requires { Nodes self.now.out × Nodes self.now.inn × Marked (marks_of marks.old) from × Links self.now.out self.now.inn from to × (to < 1024) }
+        ensures { Walked (Links self.now.out self.now.inn) to (marks_of marks.old) (marks_of marks.new) }
+    {
+        let mut p = from;
+        let mut c = to;
+        while !bits::is_marked(marks, c) {
+            bits::mark(marks, c);
+            let n = onward(usize::from(self.out[c]), usize::from(self.inn[c]), p);
+            p = c;
+            c = n;
+        }
+    }
+
+    // Walks both ways from each marked corner.
+    fn walks(&self, marks: &mut [u64; 16])
+        requires { Nodes self.now.out × Nodes self.now.inn }
+        ensures { Traced (Links self.now.out self.now.inn) (marks_of marks.old) (marks_of marks.new) }
+    {
+        for e in 0..1024 {
+            if bits::is_marked(marks, e) {
+                self.walk(marks, e, usize::from(self.out[e]));
+                self.walk(marks, e, usize::from(self.inn[e]));
+            }
         }
     }
 }
@@ -158,12 +167,14 @@ fn walks(out: &[u16; 1024], inn: &[u16; 1024], marks: &mut [u64; 16])
 fn trace(words: &[u64], marks: &mut [u64; 16])
     ensures { Lone step_of words.now → Lone next_of words.now → Flooded (Joins 1 2 words.now) (marks_of marks.old) (marks_of marks.new) }
 {
-    let mut out = [0u16; 1024];
-    let mut inn = [0u16; 1024];
-    selves(&mut out);
-    selves(&mut inn);
-    cross(words, &mut out, &mut inn);
-    walks(&out, &inn, marks);
+    let mut tables = Tables {
+        out: [0u16; 1024],
+        inn: [0u16; 1024],
+    };
+    selves(&mut tables.out);
+    selves(&mut tables.inn);
+    tables.cross(words);
+    tables.walks(marks);
 }
 
 // The lowest point with a corner that has no mark.

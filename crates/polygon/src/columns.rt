@@ -1,5 +1,5 @@
 // Check 05 and where it is met: a ring's places in two columns, those of the plane left by dropping an axis.
-ghost use Rattle.std.specs.Prelude.{◌≡◌, ◌≤◌, length};
+ghost use Rattle.std.specs.Prelude.{◌≡◌, ◌-◌, ◌<◌, ◌≤◌, length, IfSome, unwrap_or};
 ghost use Rattle.crossing.specs.Crossed.{crossed_at};
 ghost use Rattle.polygon.specs.Ring.{edges_in};
 ghost use Rattle.whole.specs.Lists.{steps};
@@ -22,10 +22,11 @@ fn fill(points: &Points, ring: &[u16], k: usize, room: &mut [i64])
 }
 
 // 05 of a ring that fits small room, in a plane: most rings are such, and large room costs more to clear.
-fn crossed_few(points: &Points, ring: &[u16], plane: Plane) -> usize
+fn crossed_few(points: &Points, ring: &[u16], plane: Plane) -> Option<usize>
     requires known { Known ring.now }
     requires in_bounds { (1 ≤ length ring.now) × (length ring.now ≤ 8) }
-    ensures { result ≡ crossed_at (steps (seen_spots points.now.flat ring.now plane.u plane.v)) }
+    ensures few { IfSome result (λ i. i < length ring.now - 1) }
+    ensures first { unwrap_or result (length ring.now - 1) ≡ crossed_at (steps (seen_spots points.now.flat ring.now plane.u plane.v)) }
 {
     let mut us: [i64; 8] = [0; 8];
     let mut vs: [i64; 8] = [0; 8];
@@ -35,10 +36,11 @@ fn crossed_few(points: &Points, ring: &[u16], plane: Plane) -> usize
 }
 
 // 05 of any ring, in a plane.
-fn crossed_many(points: &Points, ring: &[u16], plane: Plane) -> usize
+fn crossed_many(points: &Points, ring: &[u16], plane: Plane) -> Option<usize>
     requires known { Known ring.now }
     requires in_bounds { (2 ≤ length ring.now) × (length ring.now ≤ 128) }
-    ensures { result ≡ crossed_at (steps (seen_spots points.now.flat ring.now plane.u plane.v)) }
+    ensures few { IfSome result (λ i. i < length ring.now - 1) }
+    ensures first { unwrap_or result (length ring.now - 1) ≡ crossed_at (steps (seen_spots points.now.flat ring.now plane.u plane.v)) }
 {
     let mut us: [i64; 128] = [0; 128];
     let mut vs: [i64; 128] = [0; 128];
@@ -48,10 +50,11 @@ fn crossed_many(points: &Points, ring: &[u16], plane: Plane) -> usize
 }
 
 // 05 in a plane.
-fn crossed_in(points: &Points, ring: &[u16], plane: Plane) -> usize
+fn crossed_in(points: &Points, ring: &[u16], plane: Plane) -> Option<usize>
     requires known { Known ring.now }
     requires in_bounds { (1 ≤ length ring.now) }
-    ensures { result ≡ crossed_at (steps (seen_spots points.now.flat ring.now plane.u plane.v)) }
+    ensures few { IfSome result (λ i. i < length ring.now - 1) }
+    ensures first { unwrap_or result (length ring.now - 1) ≡ crossed_at (steps (seen_spots points.now.flat ring.now plane.u plane.v)) }
 {
     if ring.len() <= 8 {
         return crossed_few(points, ring, plane);
@@ -59,11 +62,12 @@ fn crossed_in(points: &Points, ring: &[u16], plane: Plane) -> usize
     crossed_many(points, ring, plane)
 }
 
-// 05 in the plane left by dropping an axis: the least edge that has a forbidden meeting, or how many edges there are.
-pub fn first_crossed(points: &Points, ring: &[u16], axis: Axis) -> usize
+// 05 in the plane left by dropping an axis: the least edge that has a forbidden meeting.
+pub fn first_crossed(points: &Points, ring: &[u16], axis: Axis) -> Option<usize>
     requires known { Known ring.now }
     requires in_bounds { 1 ≤ length ring.now }
-    ensures { result ≡ crossed_at (edges_in axis (places (points_of points.now.flat) ring.now)) }
+    ensures few { IfSome result (λ i. i < length ring.now - 1) }
+    ensures first { unwrap_or result (length ring.now - 1) ≡ crossed_at (edges_in axis (places (points_of points.now.flat) ring.now)) }
 {
     crossed_in(points, ring, Plane::left_by(axis))
 }

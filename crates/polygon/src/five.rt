@@ -1,5 +1,5 @@
 // What a ring shows by itself: the first of checks 01 to 05 that fails, with its position, and its part of the six-volume.
-ghost use Rattle.std.specs.Prelude.{◌≡◌, ◌+◌, ◌*◌, ◌<◌, ◌≤◌, length, false};
+ghost use Rattle.std.specs.Prelude.{◌≡◌, ◌+◌, ◌-◌, ◌*◌, ◌<◌, ◌≤◌, length, false, IfSome, unwrap_or};
 ghost use Rattle.space.specs.Space.{places};
 ghost use Rattle.space.specs.held.Points.{points_of, Known, as_point, Near};
 ghost use Rattle.ring.specs.Entries.{is_unclosed};
@@ -27,16 +27,13 @@ fn third_to_fifth(points: &Points, ring: &[u16], n: Place) -> Finding
     requires n_value { as_point n ≡ normal (places (points_of points.now.flat) ring.now) }
     ensures { result ≡ ring_finding (points_of points.now.flat) ring.now }
 {
-    let edges = ring.len() - 1;
-    let repeated = marks::first_repeated(ring);
-    if repeated < edges {
+    if let Some(repeated) = marks::first_repeated(ring) {
         return Finding::Repeated(repeated as u16);
     }
     if is_zero(n) {
         return Finding::NoNormal;
     }
-    let crossed = columns::first_crossed(points, ring, axes::largest_axis(n));
-    if crossed < edges {
+    if let Some(crossed) = columns::first_crossed(points, ring, axes::largest_axis(n)) {
         return Finding::Crossed(crossed as u16);
     }
     Finding::Sound
@@ -78,11 +75,12 @@ pub fn first_of_five(points: &Points, ring: &[u16], n: Place) -> Finding
     fan_first(points, ring, n)
 }
 
-// Where a ring has an edge with a forbidden meeting, by its own normal: the least such edge, or how many edges there are.
-pub fn first_crossed(points: &Points, ring: &[u16]) -> usize
+// Where a ring has an edge with a forbidden meeting, by its own normal: the least such edge.
+pub fn first_crossed(points: &Points, ring: &[u16]) -> Option<usize>
     requires known { Known ring.now }
     requires in_bounds { 1 ≤ length ring.now }
-    ensures { result ≡ crossed_at (edges_in (largest_axis_of (normal (places (points_of points.now.flat) ring.now))) (places (points_of points.now.flat) ring.now)) }
+    ensures few { IfSome result (λ i. i < length ring.now - 1) }
+    ensures first { unwrap_or result (length ring.now - 1) ≡ crossed_at (edges_in (largest_axis_of (normal (places (points_of points.now.flat) ring.now))) (places (points_of points.now.flat) ring.now)) }
 {
     let n = normal::normal(points, ring);
     columns::first_crossed(points, ring, axes::largest_axis(n))

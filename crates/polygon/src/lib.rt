@@ -79,8 +79,7 @@ fn first_failing(points: &Points, ring: &[u16], tolerance: u16, n: Place) -> Fin
     if ring.len() == 4 {
         return Finding::Sound;
     }
-    let uneven = even::first_uneven_closed(points, ring, tolerance, n);
-    if uneven < ring.len() {
+    if let Some(uneven) = even::first_uneven_closed(points, ring, tolerance, n) {
         return Finding::Uneven(uneven as u16);
     }
     Finding::Sound
@@ -94,13 +93,14 @@ pub fn position_of(points: &Points, ring: &[u16], tolerance: u16, number: u16) -
     ensures { result ≡ finding_position_of (finding tolerance (points_of points.now.flat) ring.now) }
 {
     if number == 3 {
-        return marks::first_repeated(ring);
+        return marks::first_repeated(ring).unwrap_or(ring.len() - 1);
     }
     let n = normal::normal(points, ring);
     if number == 5 {
-        return columns::first_crossed(points, ring, axes::largest_axis(n));
+        let axis = axes::largest_axis(n);
+        return columns::first_crossed(points, ring, axis).unwrap_or(ring.len() - 1);
     }
-    even::first_uneven(points, ring, tolerance, n)
+    even::first_uneven(points, ring, tolerance, n).unwrap_or(ring.len())
 }
 
 // A polygon's finding and its part, where it has one ring: the normal serves both.

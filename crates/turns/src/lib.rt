@@ -125,7 +125,7 @@ pub fn turn_polygon(arrays: &mut Arrays, s: Scalars, number: u32, n: usize) -> S
     );
     arrays.stamps[n] = number;
     arrays.turned[n] = 1 - arrays.turned[n];
-    let shape = directions::shape_now(&arrays.table, s.edges, &arrays.turned, s.fixed);
+    let shape = directions::shape_now(&arrays.table[..s.edges], &arrays.turned, s.fixed);
     Scalars {
         last: number,
         shape,

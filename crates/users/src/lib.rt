@@ -59,12 +59,11 @@ fn user_at(words: &[u64], i: usize, end: usize) -> usize
     65535
 }
 
-// "Frame 0C asks for two point numbers in either order": the users of the edge between them, where `table` begins with `count` words.
-pub fn users_of(table: &[u64; 1024], count: usize, a: u16, b: u16) -> Users
-    requires { (count ≤ 1024) × Asc (take count table.now) }
-    ensures { Told (users_in (edge a b) (take count table.now)) result.count result.lowest result.second }
+// "Frame 0C asks for two point numbers in either order": the users of the edge between them.
+pub fn users_of(words: &[u64], a: u16, b: u16) -> Users
+    requires { (length words.now ≤ 1024) × Asc words.now }
+    ensures { Told (users_in (edge a b) words.now) result.count result.lowest result.second }
 {
-    let words = &table[..count];
     let e = edge_of(a, b);
     let from = first_of(words, e, 0);
     let to = end_of(words, e, from);

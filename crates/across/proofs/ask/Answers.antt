@@ -4,6 +4,7 @@ use Rattle.desk.specs.laws.Dids.{did_refused}
 use Rattle.frame.specs.Frame.{across}
 use Rattle.edges.specs.Edges.{edge}
 use Rattle.users.specs.held.Users.{users_in, Told}
+use Rattle.std.proofs.Common.{arith, length-take-le}
 use Prim.Native.Nat.{ℕ}
 use lib.ListN.{take}
 use mathlib.Core.List.{List}
@@ -15,7 +16,8 @@ users_of-users-requires c =
     let p = c.requires.1 in
     let q = rw (c.from.ensures, c.from-2.ensures) at c.in_default.ensures in
     let fit = q.fit in
-    (p.room fit.holding, p.words fit.holding)
+    let size = p.room fit.holding in
+    (omega (arith, size, length-take-le c.args.d.held.edges c.args.table.now (omega (arith, size))), p.words fit.holding)
 
 pub returns-in-Err : goal.returns-in-Err
 returns-in-Err c = λ a e v.

@@ -9,7 +9,7 @@ pub loop-from-init : goal.loop-from-init
 loop-from-init c = take_none _ _ _ c.requires.2 (length-replicate {A = ℕ} 256 0) (all_alike 0 256 0)
 
 pub loop-from-preserved : goal.loop-from-preserved
-loop-from-preserved c = take_more _ _ _ _ _ _ c.loop-from.invariant c.loop-from-test.true _ _ _ (rw c.from-p.ensures at c.visit-to.ensures)
+loop-from-preserved c = take_more _ _ _ _ _ _ c.loop-from.invariant c.loop-from-test.true _ _ _ (rw c.from-p.ensures at c.visit.ensures)
 
 pub returns : goal.returns
 returns c = take_done _ _ _ _ _ _ c.loop-from.invariant c.loop-from-test.false

@@ -1,10 +1,11 @@
 -- `inner::first_uneven` meets its contract. The entries of all rings are those between the first start and the last.
 use native.Mathlib.Nat.{le_refl}
 use native.Mathlib.Omega.{arith}
-use mathlib.Core.Path.{◌∙◌, ap}
+use mathlib.Core.Path.{◌≡◌, subst}
+use Rattle.std.specs.Prelude.{IfSome, unwrap_or}
 use mathlib.Core.List.{List}
-use Prim.Native.Nat.{ℕ, ◌≤◌}
-use lib.ListN.{get_or}
+use Prim.Native.Nat.{ℕ, ◌≤◌, ◌<◌}
+use lib.ListN.{length, get_or}
 use borrow.Author.Rules.{rules}
 use Rattle.space.specs.Space.{places}
 use Rattle.space.specs.held.Points.{points_of, as_point}
@@ -42,5 +43,8 @@ slice_bounds-first_uneven-end c = let a = lowest ((goal.at.slice_bounds-first_un
 pub first_uneven-requires : goal.first_uneven-requires
 first_uneven-requires c = record { listed = entries-listed c.requires.lies.rings c.requires.lies.some; in_bounds = (entries-some c.requires.lies.rings c.requires.lies.some c.requires.in_bounds.0, c.requires.in_bounds.1); near = c.requires.near }
 
-pub returns : goal.returns
-returns c = c.first_uneven.ensures ∙ ap (λ (l : List ℕ). uneven_at c.args.tolerance (as_point c.args.n) (places (points_of c.args.points.now.flat) l)) (entries_are c.requires.lies.rings c.requires.lies.some)
+pub returns-clause-few : goal.returns-clause-few
+returns-clause-few c = subst (λ (l : List ℕ). IfSome c.first_uneven.result (λ i. i < length l)) (entries_are c.requires.lies.rings c.requires.lies.some) c.first_uneven.ensures.few
+
+pub returns-clause-first : goal.returns-clause-first
+returns-clause-first c = subst (λ (l : List ℕ). unwrap_or c.first_uneven.result (length l) ≡ uneven_at c.args.tolerance (as_point c.args.n) (places (points_of c.args.points.now.flat) l)) (entries_are c.requires.lies.rings c.requires.lies.some) c.first_uneven.ensures.first

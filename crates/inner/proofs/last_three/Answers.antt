@@ -18,10 +18,10 @@ use Rattle.ring.specs.Polygon.{rings_of, entries_from}
 use Rattle.ring.specs.held.Rings.{polygon_of}
 use Rattle.holes.specs.Holes.{seen, component, component_of, is_shared, is_misplaced_of}
 use Rattle.polygon.specs.Ring.{finding_position_of}
-use Rattle.inner.proofs.laws.Tables.{order, start-few, entries-count, all-filled, all_closed}
+use Rattle.inner.proofs.laws.Tables.{start-few, entries-count, all-filled, all_closed}
 use Rattle.inner.proofs.Order.{found_uneven, even_is, found-shared, found-misplaced, found_none}
 use Rattle.inner.proofs.last_three.Goals as goal
-use Rattle.inner.proofs.last_three.Goals.{After-entries_of, After-first_uneven-uneven, After-is_misplaced, After-is_shared, After-largest_axis-axis, After-normal_of-n, Else-uneven-entries_of, Start}
+use Rattle.inner.proofs.last_three.Goals.{After-is_misplaced, After-is_shared, After-largest_axis-axis, After-normal_of-n, In_default, Start}
 
 long : (s : Start) → 1 ≤ length (polygon_of s.args.rings.now.entries s.args.rings.now.starts s.args.from s.args.to).outer
 long s = (all-filled s.requires.lies.rings s.requires.lies.some (points_of s.args.points.now.flat) s.requires.to_value).each s.args.from (le_refl s.args.from) s.requires.lies.some
@@ -33,14 +33,11 @@ few : (s : Start) → get_or s.args.rings.now.starts s.args.to 0 ≤ 1024
 few s = start-few s.requires.lies.rings s.args.to s.requires.lies.some (le_refl s.args.to)
 
 -- ---- what each check told
-uneven_is : (c : After-first_uneven-uneven) → c.first_uneven-uneven.result ≡ uneven_at c.args.tolerance ((normal (places (points_of c.args.points.now.flat) (polygon_of c.args.rings.now.entries c.args.rings.now.starts c.args.from c.args.to).outer))) ((places (points_of c.args.points.now.flat) (entries_from (polygon_of c.args.rings.now.entries c.args.rings.now.starts c.args.from c.args.to))))
-uneven_is c = c.first_uneven-uneven.ensures ∙ ap (λ (m : Point). uneven_at c.args.tolerance m ((places (points_of c.args.points.now.flat) (entries_from (polygon_of c.args.rings.now.entries c.args.rings.now.starts c.args.from c.args.to))))) c.normal_of-n.ensures
+normal_is : (c : After-normal_of-n) → uneven_at c.args.tolerance (as_point c.normal_of-n.result) (places (points_of c.args.points.now.flat) (entries_from (polygon_of c.args.rings.now.entries c.args.rings.now.starts c.args.from c.args.to))) ≡ uneven_at c.args.tolerance (normal (places (points_of c.args.points.now.flat) (polygon_of c.args.rings.now.entries c.args.rings.now.starts c.args.from c.args.to).outer)) (places (points_of c.args.points.now.flat) (entries_from (polygon_of c.args.rings.now.entries c.args.rings.now.starts c.args.from c.args.to)))
+normal_is c = ap (λ (m : Point). uneven_at c.args.tolerance m (places (points_of c.args.points.now.flat) (entries_from (polygon_of c.args.rings.now.entries c.args.rings.now.starts c.args.from c.args.to)))) c.normal_of-n.ensures
 
-count_is : (c : After-entries_of) → c.entries_of.result ≡ length (entries_from (polygon_of c.args.rings.now.entries c.args.rings.now.starts c.args.from c.args.to))
-count_is c = c.entries_of.ensures ∙ sym (entries-count c.requires.lies.rings c.requires.lies.some)
-
-even : (c : Else-uneven-entries_of) → is_uneven c.args.tolerance ((normal (places (points_of c.args.points.now.flat) (polygon_of c.args.rings.now.entries c.args.rings.now.starts c.args.from c.args.to).outer))) ((places (points_of c.args.points.now.flat) (entries_from (polygon_of c.args.rings.now.entries c.args.rings.now.starts c.args.from c.args.to)))) ≡ false
-even c = even_is c.args.tolerance (points_of c.args.points.now.flat) (polygon_of c.args.rings.now.entries c.args.rings.now.starts c.args.from c.args.to) ((c.first_uneven-uneven.ensures ∙ ap (λ (m : Point). uneven_at c.args.tolerance m ((places (points_of c.args.points.now.flat) (entries_from (polygon_of c.args.rings.now.entries c.args.rings.now.starts c.args.from c.args.to))))) c.normal_of-n.ensures)) (omega (arith, (c.entries_of.ensures ∙ sym (entries-count c.requires.lies.rings c.requires.lies.some)), c.if-uneven-entries_of.false))
+even : (c : In_default) → is_uneven c.args.tolerance (normal (places (points_of c.args.points.now.flat) (polygon_of c.args.rings.now.entries c.args.rings.now.starts c.args.from c.args.to).outer)) (places (points_of c.args.points.now.flat) (entries_from (polygon_of c.args.rings.now.entries c.args.rings.now.starts c.args.from c.args.to))) ≡ false
+even c = even_is c.args.tolerance (points_of c.args.points.now.flat) (polygon_of c.args.rings.now.entries c.args.rings.now.starts c.args.from c.args.to) (c.in_default.ensures.first ∙ ap (λ (m : Point). uneven_at c.args.tolerance m (places (points_of c.args.points.now.flat) (entries_from (polygon_of c.args.rings.now.entries c.args.rings.now.starts c.args.from c.args.to)))) c.normal_of-n.ensures) (omega arith)
 
 axis-is : (c : After-largest_axis-axis) → c.largest_axis-axis.result ≡ largest_axis_of ((normal (places (points_of c.args.points.now.flat) (polygon_of c.args.rings.now.entries c.args.rings.now.starts c.args.from c.args.to).outer)))
 axis-is c = c.largest_axis-axis.ensures ∙ ap largest_axis_of c.normal_of-n.ensures
@@ -58,19 +55,17 @@ misplaced-is c = let x = sym ((c.largest_axis-axis.ensures ∙ ap largest_axis_o
 pub normal_of-n-requires : goal.normal_of-n-requires
 normal_of-n-requires c = record { ring = (c.requires.lies.rings.each c.args.from (le_refl c.args.from) c.requires.lies.some, long c) }
 
-pub first_uneven-uneven-requires : goal.first_uneven-uneven-requires
-first_uneven-uneven-requires c = record { lies = c.requires.lies; in_bounds = (long ((goal.at.first_uneven-uneven-requires c).Start), c.requires.tolerance_bound); near = near c }
-
-pub entries_of-requires : goal.entries_of-requires
-entries_of-requires c = let h = c.requires.lies in
-    record { starts_len = ((h.rings.each c.args.from (le_refl c.args.from) h.some).starts_size, omega (arith, h.rings.few, h.some), h.rings.few); from_bound = (order h.rings c.args.to (omega (arith, h.some)) (le_refl c.args.to), few ((goal.at.entries_of-requires c).Start)) }
+pub first_uneven-requires : goal.first_uneven-requires
+first_uneven-requires c = record { lies = c.requires.lies; in_bounds = (long ((goal.at.first_uneven-requires c).Start), c.requires.tolerance_bound); near = near c }
 
 pub overflow_cast-result : goal.overflow_cast-result
-overflow_cast-result c = omega (arith, c.if-uneven-entries_of.true, c.entries_of.ensures, few ((goal.at.overflow_cast-result c).Start))
+overflow_cast-result c = omega (arith, c.in-Some.ensures.few, entries-count c.requires.lies.rings c.requires.lies.some, few ((goal.at.overflow_cast-result c).Start))
 
-pub returns-then-uneven-entries_of : goal.returns-then-uneven-entries_of
+pub returns-in-Some : goal.returns-in-Some
 unfolding finding_position_of
-returns-then-uneven-entries_of c = record { found = found_uneven c.args.tolerance (points_of c.args.points.now.flat) (polygon_of c.args.rings.now.entries c.args.rings.now.starts c.args.from c.args.to) (uneven_is ((goal.at.returns-then-uneven-entries_of c).After-first_uneven-uneven)) (omega (arith, count_is ((goal.at.returns-then-uneven-entries_of c).After-entries_of), c.if-uneven-entries_of.true)); few = omega (arith, c.if-uneven-entries_of.true, c.entries_of.ensures, few ((goal.at.returns-then-uneven-entries_of c).Start)) }
+returns-in-Some c = let at = goal.at.returns-in-Some c in
+    let e = c.in-Some.ensures in
+    record { found = found_uneven c.args.tolerance (points_of c.args.points.now.flat) (polygon_of c.args.rings.now.entries c.args.rings.now.starts c.args.from c.args.to) (e.first ∙ normal_is at.After-normal_of-n) e.few; few = omega (arith, e.few, entries-count c.requires.lies.rings c.requires.lies.some, few at.Start) }
 
 pub largest_axis-axis-requires : goal.largest_axis-axis-requires
 largest_axis-axis-requires c = near ((goal.at.largest_axis-axis-requires c).After-normal_of-n)
@@ -80,7 +75,7 @@ is_shared-requires c = c.requires.lies
 
 pub returns-then-is_shared : goal.returns-then-is_shared
 unfolding finding_position_of
-returns-then-is_shared c = record { found = found-shared c.args.tolerance (points_of c.args.points.now.flat) (polygon_of c.args.rings.now.entries c.args.rings.now.starts c.args.from c.args.to) (even ((goal.at.returns-then-is_shared c).Else-uneven-entries_of)) (shared_is ((goal.at.returns-then-is_shared c).After-is_shared) ∙ c.if-is_shared.true); few = omega arith }
+returns-then-is_shared c = record { found = found-shared c.args.tolerance (points_of c.args.points.now.flat) (polygon_of c.args.rings.now.entries c.args.rings.now.starts c.args.from c.args.to) (even ((goal.at.returns-then-is_shared c).In_default)) (shared_is ((goal.at.returns-then-is_shared c).After-is_shared) ∙ c.if-is_shared.true); few = omega arith }
 
 pub is_misplaced-requires : goal.is_misplaced-requires
 is_misplaced-requires c = let h = c.requires.lies in
@@ -89,8 +84,8 @@ is_misplaced-requires c = let h = c.requires.lies in
 
 pub returns-then-is_misplaced : goal.returns-then-is_misplaced
 unfolding finding_position_of
-returns-then-is_misplaced c = record { found = found-misplaced c.args.tolerance (points_of c.args.points.now.flat) (polygon_of c.args.rings.now.entries c.args.rings.now.starts c.args.from c.args.to) (even ((goal.at.returns-then-is_misplaced c).Else-uneven-entries_of)) (shared_is ((goal.at.returns-then-is_misplaced c).After-is_shared) ∙ c.if-is_shared.false) (misplaced-is ((goal.at.returns-then-is_misplaced c).After-is_misplaced) ∙ c.if-is_misplaced.true); few = omega arith }
+returns-then-is_misplaced c = record { found = found-misplaced c.args.tolerance (points_of c.args.points.now.flat) (polygon_of c.args.rings.now.entries c.args.rings.now.starts c.args.from c.args.to) (even ((goal.at.returns-then-is_misplaced c).In_default)) (shared_is ((goal.at.returns-then-is_misplaced c).After-is_shared) ∙ c.if-is_shared.false) (misplaced-is ((goal.at.returns-then-is_misplaced c).After-is_misplaced) ∙ c.if-is_misplaced.true); few = omega arith }
 
 pub returns : goal.returns
 unfolding finding_position_of
-returns c = record { found = found_none c.args.tolerance (points_of c.args.points.now.flat) (polygon_of c.args.rings.now.entries c.args.rings.now.starts c.args.from c.args.to) (even ((goal.at.returns c).Else-uneven-entries_of)) (shared_is ((goal.at.returns c).After-is_shared) ∙ c.if-is_shared.false) (misplaced-is ((goal.at.returns c).After-is_misplaced) ∙ c.if-is_misplaced.false); few = omega arith }
+returns c = record { found = found_none c.args.tolerance (points_of c.args.points.now.flat) (polygon_of c.args.rings.now.entries c.args.rings.now.starts c.args.from c.args.to) (even ((goal.at.returns c).In_default)) (shared_is ((goal.at.returns c).After-is_shared) ∙ c.if-is_shared.false) (misplaced-is ((goal.at.returns c).After-is_misplaced) ∙ c.if-is_misplaced.false); few = omega arith }

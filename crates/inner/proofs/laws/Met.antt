@@ -1,5 +1,5 @@
 -- 03 and 05 in the ring that fails first, where it is known which of the two is the finding: a ring in which it is met nowhere passes.
-use Rattle.std.specs.Prelude.{ℕ, ◌+◌, ◌-◌, ◌≤◌, ◌<◌, ◌≡◌, refl, Bool, List, [], ◌∷◌, ◌⊎◌, eqb, get_or}
+use Rattle.std.specs.Prelude.{ℕ, ◌+◌, ◌-◌, ◌≤◌, ◌<◌, ◌≡◌, refl, Bool, List, [], ◌∷◌, ◌⊎◌, get_or}
 use native.Mathlib.Omega.{arith}
 use Rattle.std.proofs.Common.{sym, ◌∙◌, true≢false, inl, inr}
 use Rattle.std.proofs.Math.Path.{ap, subst}
@@ -13,11 +13,11 @@ use Rattle.whole.proofs.laws.First.{NoneGiven}
 use Rattle.space.specs.Space.{Point, places}
 use Rattle.plane.specs.Plane.{Segment, largest_axis_of}
 use Rattle.ring.specs.Entries.{is_unclosed, is_repeated, repeated_at}
-use Rattle.ring.specs.laws.Repeated.{repeated_is, repeated-least}
+use Rattle.ring.specs.laws.Repeated.{repeated_is}
 use Rattle.ring.specs.held.Rings.{ring_at}
 use Rattle.normal.specs.Normal.{normal, is_zero_of}
 use Rattle.crossing.specs.Crossed.{is_crossed, crossed_at}
-use Rattle.crossing.proofs.laws.Least.{crossed_is, crossed_least}
+use Rattle.crossing.proofs.laws.Least.{crossed_is}
 use Rattle.holes.specs.held.Rings.{Rings}
 use Rattle.holes.specs.laws.Passes.{span_end}
 use Rattle.polygon.specs.declared.Finding.{Finding}
@@ -67,14 +67,6 @@ module _ (points : List Point) (ring : List ℕ) where
   pub at_05 : {k : ℕ} → (k ≡ 3 → ⊥) → crossed_at es ≡ met_at k points ring
   unfolding met_at
   at_05 {k} e = ap (λ (b : Bool). cond b (repeated_at ring) (crossed_at es)) (sym (ne_eqb k 3 e))
-
-  pub at_few : (k : ℕ) → met_at k points ring ≤ length ring
-  unfolding met_at
-  at_few k = go (eqb k 3)
-    where
-      go : (b : Bool) → cond b (repeated_at ring) (crossed_at es) ≤ length ring
-      go true = omega (arith, (repeated-least ring).within)
-      go false = omega (arith, (crossed_least es).within, edges-length points ring)
 
   -- it is met before the last edge
   met_03 : finding_number_of own ≡ 3 → (repeated_at ring + 1 < length ring) × (finding_position_of own ≡ repeated_at ring)

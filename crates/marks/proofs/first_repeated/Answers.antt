@@ -13,8 +13,8 @@ entry ring last i x e h is =
 pub loop-i-init : goal.loop-i-init
 loop-i-init c = passed_none c.args.ring.now
 
-pub returns-then-is_set : goal.returns-then-is_set
-returns-then-is_set c = let l = c.loop-i in
+pub returns-then-is_set-clause-first : goal.returns-then-is_set-clause-first
+returns-then-is_set-clause-first c = let l = c.loop-i in
     let e = entry _ _ _ _ c.saturating_sub-last.ensures c.loop-i-test.true c.from-x.ensures in
     passed_found c.args.ring.now l.marks l.i _ c.requires e.0 e.1 l.invariant (sym c.if-is_set.true ∙ c.is_set.ensures)
 
@@ -24,8 +24,8 @@ loop-i-preserved c = let l = c.loop-i in
     let s = c.with_set-marked in
     passed_more c.args.ring.now l.marks l.i _ c.requires e.0 e.1 l.invariant s.result (sym c.if-is_set.false ∙ c.is_set.ensures) s.ensures
 
-pub returns : goal.returns
-returns c = let l = c.loop-i in
+pub returns-clause-first : goal.returns-clause-first
+returns-clause-first c = let l = c.loop-i in
     let n = length-take-le c.saturating_sub-last.result c.args.ring.now (omega arith) in
-    let e : c.saturating_sub-last.result ≡ l.i = omega arith in
+    let e : length c.args.ring.now - 1 ≡ l.i = omega (arith, c.saturating_sub-last.ensures) in
     e ∙ passed_done c.args.ring.now l.marks l.i (omega arith) l.invariant

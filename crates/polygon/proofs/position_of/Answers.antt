@@ -25,26 +25,32 @@ some : (c : Start) → 1 ≤ length c.args.ring.now
 some c = omega (arith, position_long c.args.tolerance (points_of c.args.points.now.flat) c.args.ring.now (known c).1)
 
 pub returns-then-number-eq3 : goal.returns-then-number-eq3
-returns-then-number-eq3 c = c.first_repeated.ensures ∙ sym (position-03 c.args.tolerance (points_of c.args.points.now.flat) c.args.ring.now (known ((goal.at.returns-then-number-eq3 c).Start)).0 c.if-number-eq3.true)
+returns-then-number-eq3 c = c.unwrap_or.ensures ∙ c.first_repeated.ensures.first ∙ sym (position-03 c.args.tolerance (points_of c.args.points.now.flat) c.args.ring.now (known ((goal.at.returns-then-number-eq3 c).Start)).0 c.if-number-eq3.true)
 
 pub normal-n-requires : goal.normal-n-requires
 normal-n-requires c = record { known = c.requires.known; in_bounds = some ((goal.at.normal-n-requires c).Start) }
 
-pub largest_axis-requires : goal.largest_axis-requires
-largest_axis-requires c = near_same c.normal-n.ensures (normal-near c.args.points.now.coords c.requires.known)
+pub largest_axis-axis-requires : goal.largest_axis-axis-requires
+largest_axis-axis-requires c = near_same c.normal-n.ensures (normal-near c.args.points.now.coords c.requires.known)
 
 pub first_crossed-requires : goal.first_crossed-requires
 first_crossed-requires c = record { known = c.requires.known; in_bounds = some ((goal.at.first_crossed-requires c).Start) }
 
 pub returns-then-number-eq5 : goal.returns-then-number-eq5
-returns-then-number-eq5 c = c.first_crossed.ensures
-    ∙ ap (λ (x : Axis). crossed_at (edges_in x ((places (points_of c.args.points.now.flat) c.args.ring.now)))) (c.largest_axis.ensures ∙ ap largest_axis_of c.normal-n.ensures)
+returns-then-number-eq5 c = c.unwrap_or-then-number-eq5.ensures ∙ c.first_crossed.ensures.first
+    ∙ ap (λ (x : Axis). crossed_at (edges_in x ((places (points_of c.args.points.now.flat) c.args.ring.now)))) (c.largest_axis-axis.ensures ∙ ap largest_axis_of c.normal-n.ensures)
     ∙ sym (position-05 c.args.tolerance (points_of c.args.points.now.flat) c.args.ring.now (known ((goal.at.returns-then-number-eq5 c).Start)).0 c.if-number-eq5.true)
 
 pub first_uneven-requires : goal.first_uneven-requires
 first_uneven-requires c = record { listed = record { each = c.requires.known.each }; in_bounds = (some ((goal.at.first_uneven-requires c).Start), c.requires.tolerance_bound); near = near_same c.normal-n.ensures (normal-near c.args.points.now.coords c.requires.known) }
 
 pub returns : goal.returns
-returns c = c.first_uneven.ensures
+returns c = c.unwrap_or-2.ensures ∙ c.first_uneven.ensures.first
     ∙ ap (λ (n : Point). uneven_at c.args.tolerance n ((places (points_of c.args.points.now.flat) c.args.ring.now))) c.normal-n.ensures
     ∙ sym (position_06 c.args.tolerance (points_of c.args.points.now.flat) c.args.ring.now (known ((goal.at.returns c).Start)).0 (known ((goal.at.returns c).Start)).1 c.if-number-eq3.false c.if-number-eq5.false)
+
+pub overflow_sub-ring : goal.overflow_sub-ring
+overflow_sub-ring c = some ((goal.at.overflow_sub-ring c).Start)
+
+pub overflow_sub-ring-then-number-eq5 : goal.overflow_sub-ring-then-number-eq5
+overflow_sub-ring-then-number-eq5 c = some ((goal.at.overflow_sub-ring-then-number-eq5 c).Start)

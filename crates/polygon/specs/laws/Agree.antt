@@ -1,6 +1,6 @@
 -- For each public function: any two results that its statement allows are one.
-use Rattle.std.specs.Prelude.{ℕ, ◌+◌, ◌*◌, ◌≡◌, List, ℤ}
-use Rattle.whole.specs.laws.Agree.{agree}
+use Rattle.std.specs.Prelude.{ℕ, ◌+◌, ◌-◌, ◌*◌, ◌<◌, ◌≡◌, List, ℤ, length, Option, IfSome, unwrap_or}
+use Rattle.whole.specs.laws.Agree.{agree, agree_below}
 use Rattle.space.specs.Space.{places}
 use Rattle.space.specs.held.Points.{points_of}
 use Rattle.plane.specs.Plane.{largest_axis_of}
@@ -31,6 +31,13 @@ first_of_five_agrees flat ring r₁ r₂ = agree
 pub first_crossed_agrees : (flat : List ℤ) (ring : List ℕ) (r₁ r₂ : ℕ) → let ps = places (points_of flat) ring in
     r₁ ≡ crossed_at (edges_in (largest_axis_of (normal ps)) ps) → r₂ ≡ crossed_at (edges_in (largest_axis_of (normal ps)) ps) → r₁ ≡ r₂
 first_crossed_agrees flat ring r₁ r₂ = agree
+
+-- the same of what the code answers: an edge, or none in place of how many there are
+pub first_crossed_alone : (flat : List ℤ) (ring : List ℕ) (o₁ o₂ : Option ℕ) → let ps = places (points_of flat) ring in
+    IfSome o₁ (λ i. i < length ring - 1) × (unwrap_or o₁ (length ring - 1) ≡ crossed_at (edges_in (largest_axis_of (normal ps)) ps))
+    → IfSome o₂ (λ i. i < length ring - 1) × (unwrap_or o₂ (length ring - 1) ≡ crossed_at (edges_in (largest_axis_of (normal ps)) ps))
+    → o₁ ≡ o₂
+first_crossed_alone flat ring o₁ o₂ = agree_below (length ring - 1) o₁ o₂
 
 pub part_of_agrees : (flat : List ℤ) (ring : List ℕ) (r₁ r₂ : ℤ) → r₁ ≡ part (points_of flat) ring → r₂ ≡ part (points_of flat) ring → r₁ ≡ r₂
 part_of_agrees flat ring r₁ r₂ = agree

@@ -7,7 +7,7 @@ use Rattle.users.proofs.Search.{told_of}
 use Rattle.users.proofs.users_of.Goals as goal
 
 pub returns : goal.returns
-returns c = let words = take c.args.count c.args.table.now in
+returns c = let words = c.args.words.now in
     let e = c.edge_of-e in
     let from = c.first_of-from in
     let to = c.end_of-to in

@@ -7,6 +7,6 @@ pub first_crossed-requires : goal.first_crossed-requires
 first_crossed-requires c = let h = c.requires.in_bounds in
     spread_is c.args.points.now.coords h.1 h.0 c.fill.ensures c.fill-2.ensures
 
-pub returns : goal.returns
-returns c = let h = c.requires.in_bounds in
-    c.first_crossed.ensures ∙ crossed_is c.args.points.now.coords h.1 h.0 c.fill.ensures c.fill-2.ensures
+pub returns-clause-first : goal.returns-clause-first
+returns-clause-first c = let h = c.requires.in_bounds in
+    c.first_crossed.ensures.first ∙ crossed_is c.args.points.now.coords h.1 h.0 c.fill.ensures c.fill-2.ensures

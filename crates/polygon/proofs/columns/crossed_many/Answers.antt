@@ -8,6 +8,6 @@ pub first_crossed-requires : goal.first_crossed-requires
 first_crossed-requires c = let h = c.requires.in_bounds in
     record { spread = spread_is c.args.points.now.coords h.1 (omega arith) c.fill.ensures c.fill-2.ensures; le_m = (omega arith, omega arith) }
 
-pub returns : goal.returns
-returns c = let h = c.requires.in_bounds in
-    c.first_crossed.ensures ∙ crossed_is c.args.points.now.coords h.1 (omega arith) c.fill.ensures c.fill-2.ensures
+pub returns-clause-first : goal.returns-clause-first
+returns-clause-first c = let h = c.requires.in_bounds in
+    c.first_crossed.ensures.first ∙ crossed_is c.args.points.now.coords h.1 (omega arith) c.fill.ensures c.fill-2.ensures

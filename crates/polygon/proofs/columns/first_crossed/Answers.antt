@@ -7,8 +7,8 @@ use Rattle.polygon.specs.held.Columns.{seen_spots}
 use Rattle.polygon.proofs.Filled.{in_plane}
 use Rattle.polygon.proofs.columns.first_crossed.Goals as goal
 
-pub returns : goal.returns
-returns c = let a = c.args in
-    c.crossed_in.ensures
+pub returns-clause-first : goal.returns-clause-first
+returns-clause-first c = let a = c.args in
+    c.crossed_in.ensures.first
     ∙ ap₂ (λ (j k : ℕ). crossed_at (steps (seen_spots a.points.now.flat a.ring.now j k))) c.left_by.ensures.0 c.left_by.ensures.1
     ∙ in_plane a.points.now.coords c.requires.known a.axis

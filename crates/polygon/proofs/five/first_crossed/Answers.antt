@@ -13,6 +13,6 @@ use Rattle.polygon.proofs.five.first_crossed.Goals as goal
 pub largest_axis-requires : goal.largest_axis-requires
 largest_axis-requires c = near_same c.normal-n.ensures (normal-near c.args.points.now.coords c.requires.known)
 
-pub returns : goal.returns
-returns c = let a = c.args in
-    c.first_crossed.ensures ∙ ap (λ (x : Axis). crossed_at (edges_in x (places (points_of a.points.now.flat) a.ring.now))) (c.largest_axis.ensures ∙ ap largest_axis_of c.normal-n.ensures)
+pub returns-clause-first : goal.returns-clause-first
+returns-clause-first c = let a = c.args in
+    c.first_crossed.ensures.first ∙ ap (λ (x : Axis). crossed_at (edges_in x (places (points_of a.points.now.flat) a.ring.now))) (c.largest_axis.ensures ∙ ap largest_axis_of c.normal-n.ensures)

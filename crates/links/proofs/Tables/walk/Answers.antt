@@ -1,9 +1,9 @@
--- What is left to show of `walk`.
+-- What is left to show of `Tables::walk`.
 use mathlib.Core.Path.{sym, ◌∙◌}
 use Rattle.bits.specs.held.Bits.{marks_of}
 use Rattle.reach.specs.laws.Marks.{words_marks, not_marked}
 use Rattle.links.proofs.Trails.{walk_none, walk_falls, walk_more}
-use Rattle.links.proofs.walk.Goals as goal
+use Rattle.links.proofs.Tables.walk.Goals as goal
 
 pub loop-marks-init : goal.loop-marks-init
 loop-marks-init c = (c.told-marks, walk_none _ _ _ _ _ (words_marks 16 _ c.told-marks) c.requires.2 c.requires.3 c.requires.4)

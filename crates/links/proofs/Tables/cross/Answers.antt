@@ -1,9 +1,9 @@
--- What is left to show of `cross`.
+-- What is left to show of `Tables::cross`.
 use Prim.Native.Nat.{◌+◌, ◌*◌}
 use native.Mathlib.Omega.{arith}
 use mathlib.Core.Path.{◌≡◌}
 use Rattle.links.proofs.Crossings.{out_pair, inn_pair, crossed}
-use Rattle.links.proofs.cross.Goals as goal
+use Rattle.links.proofs.Tables.cross.Goals as goal
 
 pub loop-i-preserved : goal.loop-i-preserved
 loop-i-preserved c = let l = c.loop-i.invariant in
