@@ -14,9 +14,9 @@ pub fn largest_axis(n: Place) -> Axis
     requires { Near 10160000000000 (as_point n) }
     ensures { result ≡ largest_axis_of (as_point n) }
 {
-    let x = n.x.unsigned_abs();
-    let y = n.y.unsigned_abs();
-    let z = n.z.unsigned_abs();
+    let x = wide::size(n.x);
+    let y = wide::size(n.y);
+    let z = wide::size(n.z);
     if y <= x && z <= x {
         Axis::X
     } else if z <= y {

@@ -1,2 +1,3 @@
 pub mod Part
+pub mod held
 pub mod laws

@@ -3,20 +3,21 @@
 #![tactic(auto)]
 
 ghost use Rattle.std.specs.Prelude.{◌≡◌, ◌<◌};
-ghost use Rattle.space.specs.held.Points.{points_of, Known, Near, as_point, place_at};
+ghost use Rattle.space.specs.held.Points.{points_of, Known, place_at};
 ghost use Rattle.space.specs.Space.{determinant};
+ghost use Rattle.volume.specs.held.Rows.{row_of, Rows};
 ghost use Rattle.volume.specs.Part.{part};
 
-use space::{Place, Points};
+use space::Points;
 
 // "the three points taken as three rows of three numbers"
-fn determinant(a: Place, b: Place, c: Place) -> i64
-    requires first { Near 100000 (as_point a) }
-    requires second { Near 100000 (as_point b) }
-    requires third { Near 100000 (as_point c) }
-    ensures { result ≡ determinant (as_point a) (as_point b) (as_point c) }
+fn determinant(m: [[i64; 3]; 3]) -> i64
+    requires { Rows m }
+    ensures { result ≡ determinant (row_of m 0) (row_of m 1) (row_of m 2) }
 {
-    a.x * (b.y * c.z - b.z * c.y) - a.y * (b.x * c.z - b.z * c.x) + a.z * (b.x * c.y - b.y * c.x)
+    let [a, b, c] = m;
+    a[0] * (b[1] * c[2] - b[2] * c[1]) - a[1] * (b[0] * c[2] - b[2] * c[0])
+        + a[2] * (b[0] * c[1] - b[1] * c[0])
 }
 
 // "the determinant of first, p, q"
@@ -27,7 +28,7 @@ fn determinant_of(points: &Points, first: u16, p: u16, q: u16) -> i64
     let a = points.place(first);
     let b = points.place(p);
     let c = points.place(q);
-    determinant(a, b, c)
+    determinant([[a.x, a.y, a.z], [b.x, b.y, b.z], [c.x, c.y, c.z]])
 }
 
 // A polygon's part of the six-volume: "the sum, over consecutive entries p, q, of the determinant of first, p, q".
