@@ -1,6 +1,8 @@
 // Frame 02, a point more: why it is refused, and what it does.
 ghost use Rattle.std.specs.Prelude.{◌≡◌, ◌+◌, ◌≤◌, length};
 ghost use Rattle.frame.specs.Frame as F;
+ghost use Rattle.space.specs.held.Points.{Coords};
+ghost use Rattle.space.specs.declared.Points.{Points};
 ghost use Rattle.building.specs.declared.Arrays.{Arrays};
 ghost use Rattle.desk.specs.held.Holds.{service, Valid, Did, does};
 ghost use Rattle.load.specs.held.Load.{with_points, Placing, PointRow};
@@ -10,7 +12,6 @@ use desk::Desk;
 use modes::Mode;
 use service::Refusal;
 use shell::Shape;
-use space::Points;
 
 // Why a point more is refused: the rows that can refuse it, in their order.
 fn of_point(
@@ -42,7 +43,7 @@ fn of_point(
 
 // A point more.
 pub fn add_point(
-    points: &mut Points,
+    points: &mut [i32; 1536],
     table: &mut [u64; 1024],
     room: &mut [u8],
     d: Desk,
@@ -50,14 +51,15 @@ pub fn add_point(
     y: i64,
     z: i64,
 ) -> Desk
-    requires { (d.at + 33 ≤ length room.old) × (Placing points.old.flat table.old d) }
-    ensures { (a : Arrays) → a.points ≡ points.old → a.table ≡ table.old → Valid a d → Did (does (service a d) (F.point x y z)) room.old d.at (with_points points.new table.new a) room.new result }
+    requires { (d.at + 33 ≤ length room.old) × (Placing points.old table.old d) }
+    ensures near { Coords points.old → Coords points.new }
+    ensures did { (a : Arrays) → a.points.flat ≡ points.old → a.table ≡ table.old → Valid a d → (after : Points) → after.flat ≡ points.new → Did (does (service a d) (F.point x y z)) room.old d.at (with_points after table.new a) room.new result }
 {
-    if let Err(refusal) = of_point(&points.flat, table, d, x, y, z) {
+    if let Err(refusal) = of_point(points, table, d, x, y, z) {
         return desk::refuse(room, d, refusal);
     }
     let n = d.held.points;
-    places::place(&mut points.flat, n, x, y, z);
+    places::place(points, n, x, y, z);
     taken::link(table, n, x, y, z);
     let at = answer::put_plain(room, d.at, 0);
     let held = Scalars {

@@ -28,7 +28,7 @@ fn one(line: &[u8], arrays: &mut Arrays, room: &mut [u8], d: Desk) -> Desk
     match fields {
         Fields::Begin(tolerance) => load::begin(&mut arrays.table, room, d, tolerance),
         Fields::Point { x, y, z } => {
-            load::add_point(&mut arrays.points, &mut arrays.table, room, d, x, y, z)
+            load::add_point(&mut arrays.points.flat, &mut arrays.table, room, d, x, y, z)
         }
         Fields::Polygon(n) => rings::add_polygon(line, n, &mut arrays.rings, room, d),
         Fields::EndOfLoad => ended::end_load(arrays, room, d),

@@ -9,7 +9,7 @@ use Rattle.load.proofs.begin.Goals as goal
 pub returns-then-tolerance-gt1000 : goal.returns-then-tolerance-gt1000
 returns-then-tolerance-gt1000 c = λ a e v.
     let g = c.args in
-    did_points (does (service a g.d) (begin g.tolerance)) g.room.now g.d.at a _ _ a.points g.table.now refl e
+    did_points a a.points g.table.now refl e (does (service a g.d) (begin g.tolerance)) g.room.now g.d.at _ _
     (did_begin-beyond a g.d v g.tolerance c.if-tolerance-gt1000.true g.room.now _ _ (c.refuse.ensures a v))
 
 pub returns : goal.returns

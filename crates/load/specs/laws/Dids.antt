@@ -1,5 +1,5 @@
 -- What begin and a point more have done: what each wrote and what it holds are the outcome of its frame.
-use Rattle.std.specs.Prelude.{ℕ, ◌+◌, ◌≤◌, ◌<◌, ◌≡◌, true, ℤ}
+use Rattle.std.specs.Prelude.{ℕ, ◌+◌, ◌≤◌, ◌<◌, ◌≡◌, true, length, take, ℤ}
 use Rattle.std.proofs.Math.Path.{refl, ap, subst}
 use Rattle.std.proofs.Common.{sym, ◌∙◌, le-ltb, lt-ltb}
 use mathlib.Core.List.{List}
@@ -15,7 +15,7 @@ use Rattle.taken.specs.held.Chains.{Chained, linked}
 use Rattle.taken.specs.laws.Chains.{chained-none, chained_more}
 use Rattle.space.specs.declared.Points.{Points}
 use Rattle.building.specs.declared.Arrays.{Arrays}
-use Rattle.building.specs.held.Holds.{held_tables, held_building, Loaded}
+use Rattle.building.specs.held.Holds.{held_tables, held_building, Loaded, Kept}
 use Rattle.building.specs.laws.Load.{loaded-begun, tables-begun, loaded_point, tables_point}
 use Rattle.service.specs.declared.Refusal.TheVariants.{Beyond}
 use Rattle.service.specs.Service.{State, loading, tables_of, is_misplaced_of, is_beyond_of, refusal, takes, answer_to, Outcome, refused}
@@ -30,10 +30,27 @@ use Rattle.desk.specs.laws.Rows.{tables, loads_is, service-loads}
 use Rattle.desk.specs.laws.Dids.{did_refused, did_accepted, passed_row, loading_mode, not-held, loading_not_nothing}
 use Rattle.load.specs.held.Load.{unchained, with_points}
 
--- arrays that are as they were, two of them under other names
-pub did_points : (o : Outcome) (room : List ℕ) (at : ℕ) (a : Arrays) (room' : List ℕ) (d : Desk) (points : Points) (table : List ℕ) → a.points ≡ points → a.table ≡ table → Did o room at a room' d
-    → Did o room at (with_points points table a) room' d
-did_points o room at a room' d points table e f h = subst (λ (w : Arrays). Did o room at w room' d) (λ i. with_points (e i) (f i) a) h
+-- arrays that are as they were, two of them under other names: what is held of points is told by their numbers
+module _ (a : Arrays) (points : Points) (table : List ℕ) (e : a.points.flat ≡ points.flat) (f : a.table ≡ table) where
+  service_points : (d : Desk) → service a d ≡ service (with_points points table a) d
+  unfolding service held_building
+  service_points d =
+      λ i. state_of d.mode (held_tables (e i) a.rings.entries a.rings.starts a.rings.firsts d.held)
+      (record { tables = held_tables (e i) a.rings.entries a.rings.starts a.rings.firsts d.held; last = d.held.last; stamps = take d.held.polygons a.stamps })
+
+  valid_points : (d : Desk) → Valid a d → Valid (with_points points table a) d
+  valid_points d v =
+      record {
+        loaded = subst (λ (q : List ℤ). Loaded q a.rings.entries a.rings.starts a.rings.firsts d.held) e v.loaded;
+        sizes = record { stamps = v.sizes.stamps; findings = v.sizes.findings; parts = v.sizes.parts; table = subst (λ (t : List ℕ). length t ≡ 1024) f v.sizes.table; turned = v.sizes.turned };
+        kept = λ q. subst (λ (t : List ℕ). Kept points.flat a.rings.entries a.rings.starts a.rings.firsts a.findings a.parts t a.turned d.held) f
+            (subst (λ (p : List ℤ). Kept p a.rings.entries a.rings.starts a.rings.firsts a.findings a.parts a.table a.turned d.held) e (v.kept q));
+        chained = λ q. subst (λ (t : List ℕ). Chained points.flat t d.held.points) f (subst (λ (p : List ℤ). Chained p a.table d.held.points) e (v.chained q));
+        fresh = λ q. subst (λ (t : List ℕ). Chained points.flat t 0) f (subst (λ (p : List ℤ). Chained p a.table 0) e (v.fresh q));
+      }
+
+  pub did_points : (o : Outcome) (room : List ℕ) (at : ℕ) (room' : List ℕ) (d : Desk) → Did o room at a room' d → Did o room at (with_points points table a) room' d
+  did_points o room at room' d h = record { valid = valid_points d h.valid; next = sym (service_points d) ∙ h.next; wrote = h.wrote; past = h.past }
 
 -- ---- begin
 

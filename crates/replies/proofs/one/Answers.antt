@@ -43,7 +43,7 @@ returns-in-Point c = let g = c.args in
     let w = g.arrays.now in
     did_step (service w g.d) g.line.now _ g.room.now _ g.d.at _ _
     ((λ i. point (to_z-of_z {w = w64} {z = c.in-Point.x} (record { sfits = omega arith }) i) (to_z-of_z {w = w64} {z = c.in-Point.y} (record { sfits = omega arith }) i) (to_z-of_z {w = w64} {z = c.in-Point.z} (record { sfits = omega arith }) i)) ∙ sym (ap (λ (q : Fields). meaning (Some q) g.line.now) c.in-Point.is) ∙ c.in-Some.ensures)
-    (c.add_point.ensures w refl refl v)
+    (c.add_point.ensures.did w refl refl v _ refl)
 
 pub returns-in-Polygon : goal.returns-in-Polygon
 returns-in-Polygon c = let g = c.args in
