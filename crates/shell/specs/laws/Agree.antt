@@ -1,13 +1,13 @@
 -- Any two results that a public function's statement allows agree.
-use Rattle.std.specs.Prelude.{ℕ, ◌≤◌, ◌<◌, ◌≡◌, Bool, List}
+use Rattle.std.specs.Prelude.{ℕ, ◌≤◌, ◌<◌, ◌≡◌, Bool, List, refl, Option, IfSome, unwrap_or}
 use Rattle.std.proofs.Math.Decide.{dec_lt}
 use Rattle.std.proofs.Common.{arith, sym, subst, ◌∙◌}
 use Rattle.std.proofs.Math.Logic.{by_cases}
 use Rattle.std.proofs.Math.Option.{none, some, some-injective, none-ne-some}
-use Rattle.whole.specs.laws.Agree.{agree}
+use Rattle.whole.specs.laws.Agree.{agree, agree_below}
 use Rattle.shell.specs.declared.Shape.{Shape}
 use Rattle.edges.specs.Edges.{used_once, used_often}
-use Rattle.links.specs.held.Linking.{Unlinks}
+use Rattle.links.specs.held.Linking.{Cornered, Unlinks}
 use Rattle.shell.specs.Shell.{not_linked}
 use Rattle.ring.specs.Polygon.{all_rings}
 use Rattle.ring.specs.held.Rings.{polygons}
@@ -36,3 +36,10 @@ module _ (es st ft : List ℕ) (n : ℕ) (ws : List ℕ) (t : Table es st ft n w
       (dec_lt r 65536)
       (λ h. by_cases (dec_lt r' 65536) (λ k. some-injective r r' (sym (found r a h) ∙ found r' b k)) (λ k. absurd (none-ne-some r (sym (missing r' b (omega arith)) ∙ found r a h))))
       (λ h. by_cases (dec_lt r' 65536) (λ k. absurd (none-ne-some r' (sym (missing r a (omega arith)) ∙ found r' b k))) (λ k. omega (arith, a.least.within, b.least.within)))
+
+  -- the same of what the code answers, a point or none in place of 65,536: the words have their corners
+  pub unlinked_alone : Cornered es ws → (o o' : Option ℕ)
+      → IfSome o (λ v. v < 65536) × (Cornered es ws → Unlinks es ws (unwrap_or o 65536))
+      → IfSome o' (λ v. v < 65536) × (Cornered es ws → Unlinks es ws (unwrap_or o' 65536))
+      → o ≡ o'
+  unlinked_alone c o o' a b = agree_below 65536 o o' (a.0, unlinked_agree (unwrap_or o 65536) (unwrap_or o' 65536) (a.1 c) (b.1 c)) (b.0, refl)

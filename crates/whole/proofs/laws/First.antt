@@ -6,9 +6,11 @@ use Rattle.std.specs.Prelude.{Bool, eqb, length, get_or}
 use Rattle.std.proofs.Math.Bool.{true, false}
 use mathlib.Core.List.{List, [], ◌∷◌, ◌++◌, map}
 use Rattle.std.proofs.Math.Option.{Option}
+use Rattle.std.proofs.Math.Option as Maybe
 use Rattle.std.proofs.lemmas.Bool.{eqb-false}
 use Rattle.std.proofs.Math.ListN.{take}
 use Rattle.whole.specs.Lists.{given, first, any, any_two}
+use Rattle.whole.specs.Lists as Table
 use Rattle.whole.specs.held.Rows.{rows}
 use Rattle.whole.specs.All.{All, none, more}
 use Rattle.whole.specs.laws.Search.{any-parts, two-parts}
@@ -134,3 +136,27 @@ module _ {A : Type 0} where
         let p = any-parts (eqb (f a)) (f r.1) (numbers_of l) e in
         let t = two-parts eqb (f r.1) (numbers_of l) q in
         apart (λ z. eqb-false (f a) (f r.1) p.0 (ap f z)) (elsewhere-of r.1 l t.0) (distinct_of a l p.1 t.1)
+
+-- ---- the first row given, if one is: of rows that answer with `some` it is the first, otherwise none, so that all of the above holds of it
+module _ {A : Type 0} where
+  abbrev pub answers : List (Bool × A) → List (Bool × Option A)
+  answers l = map (λ r. (r.0, Maybe.some r.1)) l
+
+  pub given_first : (l : List (Bool × A)) → Table.first_given (rows l) ≡ first Maybe.none (rows (answers l))
+  unfolding rows first given Table.first_given
+  given_first [] = refl
+  given_first (r ∷ l) = go r.0 (given_first l)
+    where
+      go : (t : Bool) → Table.first_given (rows l) ≡ first Maybe.none (rows (answers l)) → Table.first_given (given t r.1 ∷ rows l) ≡ first Maybe.none (given t (Maybe.some r.1) ∷ rows (answers l))
+      go true ih = refl
+      go false ih = ih
+
+  -- the law, where the answers differ
+  module _ (l : List (Bool × A)) (s : Distinct Maybe.none (answers l)) where
+    pub given-row-exactly : (n : ℕ) (d : Bool × Option A) → n < length (answers l)
+        → (NoneGiven (take n (answers l)) × ((get_or (answers l) n d).0 ≡ true) → Table.first_given (rows l) ≡ (get_or (answers l) n d).1)
+        × (Table.first_given (rows l) ≡ (get_or (answers l) n d).1 → NoneGiven (take n (answers l)) × ((get_or (answers l) n d).0 ≡ true))
+    given-row-exactly n d h = let e = row-exactly Maybe.none (answers l) s n d h in (λ g. given_first l ∙ e.0 g, λ z. e.1 (sym (given_first l) ∙ z))
+
+    pub given-none-exactly : (NoneGiven (answers l) → Table.first_given (rows l) ≡ Maybe.none) × (Table.first_given (rows l) ≡ Maybe.none → NoneGiven (answers l))
+    given-none-exactly = let e = none-exactly Maybe.none (answers l) s in (λ g. given_first l ∙ e.0 g, λ z. e.1 (sym (given_first l) ∙ z))
