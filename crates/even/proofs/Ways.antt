@@ -71,7 +71,7 @@ module _ (tolerance : ℕ) (n : Point) {flat : List ℤ} {ring : List ℕ} (h : 
     past t = record { upto = omega arith; rest = onward i (index_next (far tolerance n) (ways (points_of flat) ring) i origin (inside h k i l) t) ∙ e.rest }
 
     -- within the reach
-    even-near : off_at flat n ring i ≤ tolerance * largest n → Even tolerance n flat ring (i + 1)
+    pub even-near : off_at flat n ring i ≤ tolerance * largest n → Even tolerance n flat ring (i + 1)
     even-near q = past (ap (far tolerance n) (sym (way h k i l)) ∙ settled tolerance n _ q)
 
     -- held against the limit

@@ -81,7 +81,7 @@ fn first_off(points: &Points, ring: &[u16], n: Place, reach: u64) -> Option<usiz
 }
 
 // 06: the least entry p for which "the square of N·(p - first) exceeds tolerance squared times the sum of the squares of N's
-// components". The limit is made once, and not at all where every entry is within the reach.
+// components". The limit is made once, and not at all where every entry is within the reach; no entry within it is squared.
 pub fn first_uneven(points: &Points, ring: &[u16], tolerance: u16, n: Place) -> Option<usize>
     requires listed { Listed ring.now }
     requires in_bounds { (1 ≤ length ring.now) × (tolerance ≤ 1000) }
@@ -89,10 +89,12 @@ pub fn first_uneven(points: &Points, ring: &[u16], tolerance: u16, n: Place) -> 
     ensures few { IfSome result (λ i. i < length ring.now) }
     ensures first { unwrap_or result (length ring.now) ≡ uneven_at tolerance (as_point n) (places (points_of points.now.flat) ring.now) }
 {
-    let from = first_off(points, ring, n, reach_of(tolerance, n))?;
+    let reach = reach_of(tolerance, n);
+    let from = first_off(points, ring, n, reach)?;
     let limit = limit_of(tolerance, n);
     for i in from..ring.len() {
-        if is_beyond(off(points, n, ring[0], ring[i]), limit) {
+        let size = off(points, n, ring[0], ring[i]);
+        if reach < size && is_beyond(size, limit) {
             return Some(i);
         }
     }
