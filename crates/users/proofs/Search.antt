@@ -1,18 +1,17 @@
 -- The search by halves, and the words of one edge, which stand between two bounds.
-use Prim.Native.Nat.{ℕ, ◌+◌, ◌-◌, ◌≤◌, ◌<◌, min, zero-le}
-use native.Mathlib.Decide.{dec_lt}
+use Prim.Native.Nat.{ℕ, ◌+◌, ◌-◌, ◌≤◌, ◌<◌, min}
+use native.Mathlib.Decide.{ℕ_discrete, dec_lt}
 use native.Mathlib.Nat.{le_refl, add-zero}
 use native.Mathlib.Omega.{arith}
-use mathlib.Core.Path.{◌≡◌, sym, ap, ap₂, ◌∙◌}
+use mathlib.Core.Path.{◌≡◌, refl, sym, ap, ap₂, subst, ◌∙◌}
 use mathlib.Core.Bool.{Bool, true, false}
 use mathlib.Core.Logic.{by_cases}
 use mathlib.Core.List.{List, [], ◌++◌, map, append-nil}
-use borrow.Author.Tests.{eq-eqb, ne_eqb, ltb-true, ltb-false}
-use lib.Dec.{ltb}
+use borrow.Author.Tests.{eq-eqb, ne_eqb, leb-true, leb-false}
+use lib.Dec.{leb}
+use mir.Val.{bool_byte}
 use lib.ListN.{length, get_or, take, drop, take-append-drop, length-take, length-drop, length-map, get_or-eq_default}
 use lib.Seq.{get_or-take, get_or-drop, length-take-le, drop-drop}
-use Rattle.std.specs.List.Sorted.{IsPartitionedBy, IsPartitionPoint}
-use Rattle.std.proofs.lemmas.List.Sorted.{IsNonDecreasingBy-drop, IsNonDecreasingBy-from_default, IsPartitionedBy-ltb}
 use Rattle.whole.specs.Lists.{keep}
 use Rattle.whole.specs.laws.Places.{map_at}
 use Rattle.edges.specs.held.Ascending.{Asc}
@@ -34,35 +33,44 @@ module _ (words : List ℕ) (e : ℕ) where
           above = λ k g l. let q : get_or words i 0 ≤ get_or words k 0 = places_asc words a i k g l in omega arith;
         }
 
-  -- the words from lo on are in order, so where the first of them is that is not below edge e, all before it are
-  module _ (a : Asc words) (lo : ℕ) (s : Halving words e lo (length words)) where
-    abbrev before : ℕ → Bool
-    before w = ltb (key_from w) e
-
-    pub parted : IsPartitionedBy before (drop lo words)
-    parted = IsPartitionedBy-ltb key_from (drop lo words) e (IsNonDecreasingBy-drop key_from lo words (IsNonDecreasingBy-from_default key_from words 0 rising))
+    -- where the third word from there is past it, those of the two before it that are not are counted
+    pub counted : Asc words → from + 2 < length words → e < key_from (get_or words (from + 2) 0) → (x y : ℕ) → x ≡ bool_byte (leb (key_from (get_or words from 0)) e) → y ≡ bool_byte (leb (key_from (get_or words (from + 1) 0)) e) → Bound words (e + 1) (from + x + y)
+    counted a h t x y p q = go (leb (key_from (get_or words from 0)) e) (leb (key_from (get_or words (from + 1) 0)) e) refl refl p q
       where
-        rising : (i j : ℕ) → i ≤ j → j < length words → key_from (get_or words i 0) ≤ key_from (get_or words j 0)
-        rising i j h k = let q : get_or words i 0 ≤ get_or words j 0 = places_asc words a i j h k in omega arith
+        go : (u v : Bool) → leb (key_from (get_or words from 0)) e ≡ u → leb (key_from (get_or words (from + 1) 0)) e ≡ v → x ≡ bool_byte u → y ≡ bool_byte v → Bound words (e + 1) (from + x + y)
+        go true true f g p q = subst (Bound words (e + 1)) (omega arith) (past a (from + 2) h (λ k l m. by_cases (ℕ_discrete k from) (λ z. rw z (leb-true _ _ f)) (λ n. rw (is_next k l m n) (leb-true _ _ g))) t)
+          where
+            is_next : (k : ℕ) → from ≤ k → k < from + 2 → (k ≡ from → ⊥) → k ≡ from + 1
+            is_next k l m n = omega arith
+        go true false f g p q = subst (Bound words (e + 1)) (omega arith) (past a (from + 1) (omega arith) (λ k l m. rw (is_from k l m) (leb-true _ _ f)) (leb-false _ _ g))
+          where
+            is_from : (k : ℕ) → from ≤ k → k < from + 1 → k ≡ from
+            is_from k l m = omega arith
+        go false true f g p q = let r : get_or words from 0 ≤ get_or words (from + 1) 0 = places_asc words a from (from + 1) (omega arith) (omega arith) in absurd (omega (arith, leb-false _ _ f, leb-true _ _ g))
+        go false false f g p q = subst (Bound words (e + 1)) (omega arith) (past a from (omega arith) (λ k l m. absurd (omega arith)) (leb-false _ _ f))
 
-    pub bound_at : (i : ℕ) → i ≤ length (drop lo words) → IsPartitionPoint (λ w. before w ≡ true) (λ w. before w ≡ false) (drop lo words) i → Bound words e (lo + i)
-    bound_at i h p = record {
-      within = omega (arith, long, s.order);
-      below = λ k b. by_cases (dec_lt k lo) (s.below k) (λ n. low (k - lo) k (omega arith) (omega arith));
-      above = λ k b c. high (k - lo) k (omega arith) (omega arith) c;
-    }
-      where
-        long : length (drop lo words) ≡ length words - lo
-        long = length-drop lo words
+  module _ (a : Asc words) (lo hi : ℕ) (s : Halving words e lo hi) (mid : ℕ) (g : lo ≤ mid) (h : mid < hi) where
+    pub halving-up : key_from (get_or words mid 0) < e → Halving words e (mid + 1) hi
+    halving-up t =
+        record {
+          order = omega arith;
+          within = s.within;
+          below = λ i b. let k : get_or words i 0 ≤ get_or words mid 0 = places_asc words a i mid (omega arith) (omega (arith, s.within)) in omega arith;
+          above = s.above;
+        }
 
-        at-lo : (m k : ℕ) → lo + m ≡ k → get_or (drop lo words) m 0 ≡ get_or words k 0
-        at-lo m k z = get_or-drop lo words m 0 ∙ ap (λ (x : ℕ). get_or words x 0) z
+    pub halving-down : e ≤ key_from (get_or words mid 0) → Halving words e lo mid
+    halving-down t =
+        record {
+          order = g;
+          within = omega (arith, s.within);
+          below = s.below;
+          above = λ i b c. let k : get_or words mid 0 ≤ get_or words i 0 = places_asc words a mid i b c in omega arith;
+        }
 
-        low : (m k : ℕ) → lo + m ≡ k → m < i → key_from (get_or words k 0) < e
-        low m k z lt = rw (at-lo m k z) at (ltb-true _ _ (p.0 m 0 zero-le lt))
-
-        high : (m k : ℕ) → lo + m ≡ k → i ≤ m → k < length words → e ≤ key_from (get_or words k 0)
-        high m k z le lt = rw (at-lo m k z) at (ltb-false _ _ (p.1 m 0 le (omega (arith, long))))
+  pub halving_done : (lo hi : ℕ) → Halving words e lo hi → hi ≤ lo → Bound words e lo
+  halving_done lo hi s h =
+      record { within = omega (arith, s.order, s.within); below = s.below; above = λ i b c. s.above i (omega (arith, s.order)) c }
 
 -- ---- the words of one edge stand between two bounds
 

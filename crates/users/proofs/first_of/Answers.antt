@@ -1,16 +1,23 @@
--- `users::first_of` meets its contract.
-use Prim.Native.Nat.{ℕ}
-use lib.Dec.{ltb}
-use borrow.Author.Rules.{rules}
-use Rattle.std.proofs.lemmas.List.{take_rest}
-use Rattle.std.proofs.lemmas.List.Sorted.{IsPartitionPoint-from_clause}
-use Rattle.words.specs.held.Words.{key_from}
-use Rattle.users.proofs.Search.{parted, bound_at}
+-- What is left to show of `first_of`.
+use Prim.Native.Nat.{◌+◌, ◌-◌, ◌/◌}
+use native.Mathlib.Omega.{arith}
+use Rattle.users.proofs.Search.{halving-up, halving-down, halving_done}
 use Rattle.users.proofs.first_of.Goals as goal
 
+pub loop-lo-init : goal.loop-lo-init
+loop-lo-init c = c.requires.1
+
+pub loop-lo-preserved-then-key_of-e : goal.loop-lo-preserved-then-key_of-e
+loop-lo-preserved-then-key_of-e c = let lp = c.loop-lo in
+    let key = c.key_of.ensures in
+    halving-up c.args.words.now c.args.e c.requires.0 lp.lo lp.hi lp.invariant (lp.lo + (lp.hi - lp.lo) / 2) (omega arith) (omega (arith, c.loop-lo-test.true)) (omega (arith, key, c.if-key_of-e.true))
+
+pub loop-lo-preserved : goal.loop-lo-preserved
+loop-lo-preserved c = let lp = c.loop-lo in
+    let key = c.key_of.ensures in
+    halving-down c.args.words.now c.args.e c.requires.0 lp.lo lp.hi lp.invariant (lp.lo + (lp.hi - lp.lo) / 2) (omega arith) (omega (arith, c.loop-lo-test.true)) (omega (arith, key, c.if-key_of-e.false))
+
 pub returns : goal.returns
-returns c = let a = c.args in
-    let p = c.partition_point in
-    let rest = take_rest a.words.now a.low in
-    bound_at a.words.now a.e c.requires.0 a.low c.requires.1 p.result (rw rest at p.ensures.bound)
-    (IsPartitionPoint-from_clause (λ (w : ℕ). ltb (key_from w) a.e) _ _ (rw rest at p.ensures.partitioned) (parted a.words.now a.e c.requires.0 a.low c.requires.1) (λ b r q k. search rules))
+returns c = let lp = c.loop-lo in
+    let a = c.args in
+    halving_done a.words.now a.e lp.lo lp.hi lp.invariant c.loop-lo-test.false

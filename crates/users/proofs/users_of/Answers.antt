@@ -1,7 +1,6 @@
 -- `users::users_of` meets its contract. The words of an edge stand between two bounds (`told_of`).
 use Prim.Native.Nat.{ℕ, ◌-◌}
 use mathlib.Core.Path.{subst}
-use lib.ListN.{take}
 use Rattle.users.specs.held.Users.{users_in, Told}
 use Rattle.users.proofs.Search.{told_of}
 use Rattle.users.proofs.users_of.Goals as goal
