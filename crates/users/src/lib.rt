@@ -27,7 +27,7 @@ fn edge_of(a: u16, b: u16) -> u64
 }
 
 // Where the words of edge e and of those after it begin, which is not before `low`. By halves: some 10 reads, however many words. The
-// loop is written out: with `partition_point`, which reads a word more, streams of edge questions took up to a third longer.
+// loop is written out: with `partition_point`, which reads a word more, the searches of an edge question took twice as long.
 fn first_of(words: &[u64], e: u64, low: usize) -> usize
     requires { Asc words.now × Halving words.now e low (length words.now) }
     ensures { Bound words.now e result }
